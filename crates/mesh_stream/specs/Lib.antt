@@ -1,5 +1,7 @@
 pub mod Numbers
+pub mod Lists
 pub mod Events
+pub mod Live
 pub mod Ranges
 pub mod Meaning
 pub mod Calls

@@ -1,0 +1,1 @@
+// The bottoms that take no text: the list stage and the grid.
