@@ -2,9 +2,9 @@ ghost use mathlib.Core.Path.{_≡_};
 ghost use Rattle.mesh_stream.specs.Meaning.{Meaning, Port, Lawful, TakesText, room};
 ghost use Rattle.mesh_stream.specs.Calls.{Nexted, Fed, Closed};
 use crate::fault::Fault;
-use crate::fault::Refusal;
 use crate::fault::FaultDebug;
 use crate::fault::FaultPartialEq;
+use crate::fault::Refusal;
 
 // How a stage stands once it has handed over all that it has: it waits for more text, or it ended, or it is at fault.
 #[derive(Clone, Copy, PartialEq, Eq, Debug)]

@@ -1,0 +1,4 @@
+mod Words
+mod Digits
+mod Magnitudes
+mod Minus

@@ -1,0 +1,11 @@
+use mathlib.Core.Path.{_≡_}
+use Prim.Native.Nat.{_-_}
+use lib.ListN.{length}
+use Rattle.mesh_reader.specs.Scanning.{Within, rest-words}
+use Rattle.mesh_reader.proofs.scan.skip_blanks.Given as given
+
+abbrev pub Inv-loop-at : given.InvT-loop-at
+Inv-loop-at l = Within (l .bytes) (l .from) (l .at) × (rest-words (l .bytes) (l .at) ≡ rest-words (l .bytes) (l .from))
+
+abbrev pub μ-loop-at : given.MeasureT-loop-at
+μ-loop-at l = length (l .bytes) - l .at

@@ -1,0 +1,4 @@
+pub mod Text
+pub mod Numerals
+pub mod Reading
+pub mod Scanning

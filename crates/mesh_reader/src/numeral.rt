@@ -1,0 +1,48 @@
+ghost use mathlib.Core.Path.{_≡_};
+ghost use Rattle.mesh_reader.specs.Numerals.{coordinate-by, vertex-by};
+use mesh_stream::fault::Cause;
+
+// A word read as a number: whether it has a minus, and what its 1 to 9 digits say, if that is what it has.
+#[derive(Clone, Copy)]
+pub struct Numeral {
+    pub minus: bool,
+    pub magnitude: Option<u32>,
+}
+
+impl Numeral {
+    // As a coordinate: from -100,000 to 100,000.
+    pub fn coordinate(self) -> Result<i32, Cause>
+        ensures { λ r. ⌜ r ≡ coordinate-by (self .minus) (self .magnitude) ⌝ }
+    {
+        let Some(size) = self.magnitude else {
+            return Err(Cause::NotANumber);
+        };
+        if size > 100_000 {
+            return Err(Cause::OutOfRange);
+        }
+        Ok(if self.minus {
+            -(size as i32)
+        } else {
+            size as i32
+        })
+    }
+
+    // As a vertex number: without sign, from 1 to 100,000,000.
+    pub fn vertex_number(self) -> Result<u32, Cause>
+        ensures { λ r. ⌜ r ≡ vertex-by (self .minus) (self .magnitude) ⌝ }
+    {
+        if self.minus {
+            return Err(Cause::NotANumber);
+        }
+        match self.magnitude {
+            None => Err(Cause::NotANumber),
+            Some(number) => {
+                if number == 0 || number > 100_000_000 {
+                    Err(Cause::OutOfRange)
+                } else {
+                    Ok(number)
+                }
+            }
+        }
+    }
+}
