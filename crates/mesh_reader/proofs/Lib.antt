@@ -2,3 +2,4 @@ mod Words
 mod Digits
 mod Magnitudes
 mod Minus
+mod FirstWords

@@ -15,24 +15,14 @@ use Rattle.mesh_reader.specs.Text.{some-bytes, blank}
 use Rattle.mesh_reader.specs.Numerals.{digit, all-digits, value, magnitude}
 use Rattle.mesh_reader.specs.Scanning.{separates, front, behind, at-word-end, leading}
 use Rattle.mesh_reader.proofs.Digits.{digit-from}
+use Rattle.mesh_reader.proofs.Words.{front-on, behind-on, front-end}
 
 pub digit-in-word : (b : ℕ) → digit b ≡ true → separates b ≡ false
 digit-in-word b e =
     let from = digit-from b e in
     or-from (blank b) _ (or-from _ _ (or-from _ _ (ne-eqb b 32 (λ z. omega arith)) (ne-eqb b 9 (λ z. omega arith))) (ne-eqb b 13 (λ z. omega arith))) (ne-eqb b 10 (λ z. omega arith))
 
--- A word goes on with a byte that does not separate.
-pub front-on : (b : ℕ) (bs : List ℕ) → separates b ≡ false → front separates (b ∷ bs) ≡ b ∷ front separates bs
-front-on b bs e = ap (λ t. cond t [] (b ∷ front separates bs)) e
-
-pub behind-on : (b : ℕ) (bs : List ℕ) → separates b ≡ false → behind separates (b ∷ bs) ≡ behind separates bs
-behind-on b bs e = ap (λ t. cond t (b ∷ bs) (behind separates bs)) e
-
-front-end : (bs : List ℕ) → at-word-end bs ≡ true → front separates bs ≡ []
-front-end [] e = refl
-front-end (b ∷ bs) e = ap (λ t. cond t [] (b ∷ front separates bs)) e
-
-behind-end : (bs : List ℕ) → at-word-end bs ≡ true → behind separates bs ≡ bs
+pub behind-end : (bs : List ℕ) → at-word-end bs ≡ true → behind separates bs ≡ bs
 behind-end [] e = refl
 behind-end (b ∷ bs) e = ap (λ t. cond t (b ∷ bs) (behind separates bs)) e
 

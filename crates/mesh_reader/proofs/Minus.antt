@@ -6,14 +6,12 @@ use Prim.Native.Nat.{ℕ, _+_, _<_}
 use lib.Dec.{eqb}
 use lib.ListN.{length, getD, drop}
 use Rattle.std.specs.declared.option.Option.{Option}
-use Rattle.std.proofs.shelf.Lists.{drop-more}
 use Rattle.std.proofs.shelf.Tests.{or-parts}
 use Rattle.mesh_reader.specs.declared.numeral.Numeral.{Numeral}
 use Rattle.mesh_reader.specs.Text.{blank, line-end}
 use Rattle.mesh_reader.specs.Numerals.{magnitude, numeral}
 use Rattle.mesh_reader.specs.Scanning.{separates, front, behind, at-word-end, Within}
-use Rattle.mesh_reader.proofs.Words.{behind-more, within-more, within-on, within-here}
-use Rattle.mesh_reader.proofs.Magnitudes.{front-on}
+use Rattle.mesh_reader.proofs.Words.{behind-more, word-byte, word-more, within-more, within-on, within-here}
 
 -- The digits from `at` on say m, and the word ends at `to`.
 pub record Sized (bs : List ℕ) (at to : ℕ) (m : Option ℕ) : Type 0 where
@@ -29,10 +27,10 @@ pub record Spelled (bs : List ℕ) (from to : ℕ) (m : Option ℕ) : Type 0 whe
 
 module _ (bs : List ℕ) (from : ℕ) (h : from < length bs) (e : at-word-end (drop from bs) ≡ false) where
   no-gap : separates (getD bs from 0) ≡ false
-  no-gap = sym (ap at-word-end (drop-more bs from 0 h)) ∙ e
+  no-gap = word-byte bs from h e
 
   word-is : front separates (drop from bs) ≡ getD bs from 0 ∷ front separates (drop (from + 1) bs)
-  word-is = ap (front separates) (drop-more bs from 0 h) ∙ front-on (getD bs from 0) (drop (from + 1) bs) no-gap
+  word-is = word-more bs from h no-gap
 
   named : (m : Option ℕ) (t : Bool) → eqb (getD bs from 0) 45 ≡ t → m ≡ magnitude (cond t (front separates (drop (from + 1) bs)) (getD bs from 0 ∷ front separates (drop (from + 1) bs)))
       → record { minus = eqb (getD bs from 0) 45; magnitude = m } ≡ numeral (front separates (drop from bs))

@@ -109,7 +109,7 @@ behind-ends (b ∷ bs) = by (separates b) refl (behind-ends bs)
     by true e later = ap (λ t. at-word-end (cond t (b ∷ bs) (behind separates bs))) e ∙ e
     by false e later = ap (λ t. at-word-end (cond t (b ∷ bs) (behind separates bs))) e ∙ later
 
-word-first : (bs : List ℕ) → at-word-end bs ≡ false → words (front line-end bs) ≡ front separates bs ∷ words (front line-end (behind separates bs))
+pub word-first : (bs : List ℕ) → at-word-end bs ≡ false → words (front line-end bs) ≡ front separates bs ∷ words (front line-end (behind separates bs))
 word-first [] e = absurd (both-ways true e refl)
 word-first (b ∷ bs) e =
     ap (kept-by some-bytes) (pieces-word (b ∷ bs))
@@ -138,12 +138,22 @@ no-word-left bs at e n = by (cases-lt at (length bs))
         ∙ no-word (getD bs at 0 ∷ drop (at + 1) bs) (sym (ap at-word-end (drop-more bs at 0 h)) ∙ e) (λ b cs q. ap blank (ap (λ (xs : List ℕ). getD xs 0 0) (sym q)) ∙ n h)
     by (inr h) = ap (λ (xs : List ℕ). words (front line-end xs)) (drop-all at bs h)
 
-pub word-inside : (bs : List ℕ) (at : ℕ) → at-word-end (drop at bs) ≡ false → at < length bs
-word-inside bs at e = by (cases-lt at (length bs))
-  where
-    by : (at < length bs) ⊎ (length bs ≤ at) → at < length bs
-    by (inl h) = h
-    by (inr h) = absurd (both-ways (at-word-end (drop at bs)) e (ap at-word-end (drop-all at bs h)))
-
 pub within-here : (bs : List ℕ) (at : ℕ) → at < length bs → Within bs at at
 within-here bs at h = record { forward = omega arith; inside = omega arith; same-line = refl }
+
+-- A word goes on with a byte that does not separate.
+pub front-on : (b : ℕ) (bs : List ℕ) → separates b ≡ false → front separates (b ∷ bs) ≡ b ∷ front separates bs
+front-on b bs e = ap (λ t. cond t [] (b ∷ front separates bs)) e
+
+pub behind-on : (b : ℕ) (bs : List ℕ) → separates b ≡ false → behind separates (b ∷ bs) ≡ behind separates bs
+behind-on b bs e = ap (λ t. cond t (b ∷ bs) (behind separates bs)) e
+
+pub front-end : (bs : List ℕ) → at-word-end bs ≡ true → front separates bs ≡ []
+front-end [] e = refl
+front-end (b ∷ bs) e = ap (λ t. cond t [] (b ∷ front separates bs)) e
+
+pub word-byte : (bs : List ℕ) (at : ℕ) → at < length bs → at-word-end (drop at bs) ≡ false → separates (getD bs at 0) ≡ false
+word-byte bs at h e = sym (ap at-word-end (drop-more bs at 0 h)) ∙ e
+
+pub word-more : (bs : List ℕ) (at : ℕ) → at < length bs → separates (getD bs at 0) ≡ false → front separates (drop at bs) ≡ getD bs at 0 ∷ front separates (drop (at + 1) bs)
+word-more bs at h e = ap (front separates) (drop-more bs at 0 h) ∙ front-on (getD bs at 0) (drop (at + 1) bs) e

@@ -3,6 +3,7 @@ use mathlib.Core.List.{List, [], _∷_, _++_, map}
 use mathlib.Core.Bool.{Bool, true, false, cond}
 use Prim.Native.Nat.{ℕ, suc}
 use lib.Dec.{eqb, leb, ltb}
+use lib.IntN.{ℤ}
 use lib.ListN.{length}
 use Rattle.std.specs.declared.option.Option.{Option}
 use Rattle.std.specs.declared.option.Option.the-variants.{Some, None}
@@ -17,17 +18,17 @@ use Rattle.mesh_stream.specs.declared.stage.Standing.{Standing}
 use Rattle.mesh_stream.specs.declared.stage.Standing.the-variants.{Waiting, Ended, Faulty}
 use Rattle.mesh_stream.specs.Meaning.{Mark, unclosed, closed, Outcome, outcome, prepend, Meaning}
 use Rattle.mesh_reader.specs.declared.numeral.Numeral.{Numeral}
-use Rattle.mesh_reader.specs.declared.line.FirstWord.{FirstWord}
-use Rattle.mesh_reader.specs.declared.line.FirstWord.the-variants.{Missing, Comment, Letter, Other}
-use Rattle.mesh_reader.specs.declared.line.LineContent.{LineContent}
-use Rattle.mesh_reader.specs.declared.line.LineContent.the-variants.{Nothing, Gives, Wrong}
+use Rattle.mesh_reader.specs.declared.content.FirstWord.{FirstWord}
+use Rattle.mesh_reader.specs.declared.content.FirstWord.the-variants.{Missing, Comment, Letter, Other}
+use Rattle.mesh_reader.specs.declared.content.LineContent.{LineContent}
+use Rattle.mesh_reader.specs.declared.content.LineContent.the-variants.{Nothing, Gives, Wrong}
 use Rattle.mesh_reader.specs.Text.{words, lines}
 use Rattle.mesh_reader.specs.Numerals.{numeral, coordinate-of, vertex-of}
 
 -- Word by word from the left each number is read, and the first that cannot be is the fault.
-abbrev pub then : {A : Type 0} → Result A Cause → (A → LineContent) → LineContent
+abbrev pub then : {A B : Type 0} → Result A Cause → (A → Result B Cause) → Result B Cause
 then (Ok v) next = next v
-then (Err c) next = Wrong c
+then (Err c) next = Err c
 
 -- exactly three
 abbrev pub three-of : {A : Type 0} → List A → Option (A × A × A)
@@ -37,9 +38,9 @@ three-of (a ∷ (b ∷ [])) = None
 three-of (a ∷ (b ∷ (c ∷ []))) = Some (a, b, c)
 three-of (a ∷ (b ∷ (c ∷ (d ∷ more)))) = None
 
-abbrev pub of-three : {A : Type 0} → (Numeral → Result A Cause) → (A → A → A → Event) → Option (Numeral × Numeral × Numeral) → LineContent
-of-three read make None = Wrong WordCount
-of-three read make (Some (a, b, c)) = then (read a) λ i. then (read b) λ j. then (read c) λ k. Gives (make i j k)
+abbrev pub of-three : {A : Type 0} → (Numeral → Result A Cause) → (A → A → A → Event) → Option (Numeral × Numeral × Numeral) → Result Event Cause
+of-three read make None = Err WordCount
+of-three read make (Some (a, b, c)) = then (read a) λ i. then (read b) λ j. then (read c) λ k. Ok (make i j k)
 
 -- exactly one
 abbrev pub one-of : {A : Type 0} → List A → Option A
@@ -47,9 +48,13 @@ one-of [] = None
 one-of (a ∷ []) = Some a
 one-of (a ∷ (b ∷ more)) = None
 
-abbrev pub of-one : {A : Type 0} → (Numeral → Result A Cause) → (A → Event) → Option Numeral → LineContent
-of-one read make None = Wrong WordCount
-of-one read make (Some a) = then (read a) λ i. Gives (make i)
+abbrev pub of-one : {A : Type 0} → (Numeral → Result A Cause) → (A → Event) → Option Numeral → Result Event Cause
+of-one read make None = Err WordCount
+of-one read make (Some a) = then (read a) λ i. Ok (make i)
+
+abbrev pub content-of : Result Event Cause → LineContent
+content-of (Ok e) = Gives e
+content-of (Err c) = Wrong c
 
 -- A # is the byte 35.
 abbrev pub by-first-byte : Bool → ℕ → List ℕ → FirstWord
@@ -69,16 +74,22 @@ abbrev pub behind-first : List (List ℕ) → List (List ℕ)
 behind-first [] = []
 behind-first (w ∷ ws) = ws
 
+abbrev pub vertex-event : ℕ → ℕ → ℤ → ℤ → ℤ → Event
+vertex-event place vertex x y z = Vertex place vertex (record { x = x; y = y; z = z })
+
 -- The first word is one of the letters v, f and x, the bytes 118, 102 and 120, or starts with #. Behind v follow three
 -- coordinates, behind f three vertex numbers, behind x one.
+abbrev pub by-letter : ℕ → ℕ → ℕ → List Numeral → LineContent
+by-letter place vertex b ns =
+    cond (eqb b 118) (content-of (of-three coordinate-of (vertex-event place vertex) (three-of ns)))
+    (cond (eqb b 102) (content-of (of-three vertex-of (Triangle place) (three-of ns)))
+    (cond (eqb b 120) (content-of (of-one vertex-of (Finalization place) (one-of ns)))
+    (Wrong UnknownWord)))
+
 abbrev pub by-kind : ℕ → ℕ → FirstWord → List Numeral → LineContent
 by-kind place vertex Missing ns = Nothing
 by-kind place vertex Comment ns = Nothing
-by-kind place vertex (Letter b) ns =
-    cond (eqb b 118) (of-three coordinate-of (λ x y z. Vertex place vertex (record { x = x; y = y; z = z })) (three-of ns))
-    (cond (eqb b 102) (of-three vertex-of (Triangle place) (three-of ns))
-    (cond (eqb b 120) (of-one vertex-of (Finalization place) (one-of ns))
-    (Wrong UnknownWord)))
+by-kind place vertex (Letter b) ns = by-letter place vertex b ns
 by-kind place vertex Other ns = Wrong UnknownWord
 
 abbrev pub by-words : ℕ → ℕ → List (List ℕ) → LineContent

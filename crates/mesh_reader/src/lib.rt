@@ -1,4 +1,5 @@
 // The text reader: mesh text in, events out.
-pub mod line;
+pub mod content;
+mod line;
 pub mod numeral;
 mod scan;

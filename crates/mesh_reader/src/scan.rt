@@ -29,8 +29,9 @@ fn is_separator(byte: u8) -> bool
 }
 
 // Whether no word goes on here.
-fn at_word_end(bytes: &[u8], at: usize) -> bool
-    ensures { λ r. ⌜ r ≡ at-word-end (drop at (now (bytes .entry))) ⌝ }
+pub fn at_word_end(bytes: &[u8], at: usize) -> bool
+    ensures word { λ r. ⌜ r ≡ at-word-end (drop at (now (bytes .entry))) ⌝ }
+    ensures inside { λ r. ⌜ (r ≡ false → at < length (now (bytes .entry))) ⌝ }
 {
     at >= bytes.len() || is_separator(bytes[at])
 }

@@ -11,7 +11,7 @@ use Rattle.mesh_reader.proofs.scan.magnitude_at.Needs as need
 pub returns-then-not-at-word-end : need.returns-then-not-at-word-end
 returns-then-not-at-word-end c =
     let d = c .leading-digits-digits .ensures in
-    let e = sym (c .if-not-at-word-end .ensures tt) in
+    let e = sym (c .if-not-at-word-end .ensures tt .word) in
     let at = c .leading-digits-digits .result .at in
     let bytes = c .args .bytes .now in
     let v = c .leading-digits-digits .result .found in
@@ -24,7 +24,7 @@ returns-then-not-at-word-end c =
 pub returns-then-from-digits : need.returns-then-from-digits
 returns-then-from-digits c =
     let d = c .leading-digits-digits .ensures in
-    let e = sym (c .if-not-at-word-end .ensures tt) in
+    let e = sym (c .if-not-at-word-end .ensures tt .word) in
     let at = c .leading-digits-digits .result .at in
     let bytes = c .args .bytes .now in
     let v = c .leading-digits-digits .result .found in
@@ -37,7 +37,7 @@ returns-then-from-digits c =
 pub returns-else-from-digits : need.returns-else-from-digits
 returns-else-from-digits c =
     let d = c .leading-digits-digits .ensures in
-    let e = sym (c .if-not-at-word-end .ensures tt) in
+    let e = sym (c .if-not-at-word-end .ensures tt .word) in
     let at = c .leading-digits-digits .result .at in
     let bytes = c .args .bytes .now in
     let v = c .leading-digits-digits .result .found in
