@@ -3,3 +3,4 @@ mod Digits
 mod Magnitudes
 mod Minus
 mod FirstWords
+mod FrontLines

@@ -1,5 +1,7 @@
 pub mod Text
 pub mod Numerals
 pub mod Reading
+pub mod ReadingLaw
 pub mod Scanning
 pub mod Lines
+pub mod Keeping

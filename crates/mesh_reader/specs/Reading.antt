@@ -22,7 +22,7 @@ use Rattle.mesh_reader.specs.declared.content.FirstWord.{FirstWord}
 use Rattle.mesh_reader.specs.declared.content.FirstWord.the-variants.{Missing, Comment, Letter, Other}
 use Rattle.mesh_reader.specs.declared.content.LineContent.{LineContent}
 use Rattle.mesh_reader.specs.declared.content.LineContent.the-variants.{Nothing, Gives, Wrong}
-use Rattle.mesh_reader.specs.Text.{words, lines}
+use Rattle.mesh_reader.specs.Text.{pieces, some-bytes, words, line-end, lines}
 use Rattle.mesh_reader.specs.Numerals.{numeral, coordinate-of, vertex-of}
 
 -- Word by word from the left each number is read, and the first that cannot be is the fault.
@@ -95,12 +95,13 @@ by-kind place vertex Other ns = Wrong UnknownWord
 abbrev pub by-words : ℕ → ℕ → List (List ℕ) → LineContent
 by-words place vertex ws = by-kind place vertex (first-word ws) (map numeral (behind-first ws))
 
+-- A text has at most 1,000,000,000 lines.
+abbrev pub in-time : ℕ → LineContent → LineContent
+in-time place content = cond (ltb 1000000000 place) (Wrong TooManyLines) content
+
 -- What a line holds: no event, an event, or a fault. `place` is its number from 1, `vertex` the number of the next vertex.
 abbrev pub line-content : ℕ → ℕ → List ℕ → LineContent
-line-content place vertex line =
-    cond (ltb 1000000000 place) (Wrong TooManyLines)
-    (cond (leb 128 (length line)) (Wrong LineTooLong)
-    (by-words place vertex (words line)))
+line-content place vertex line = in-time place (cond (leb 128 (length line)) (Wrong LineTooLong) (by-words place vertex (words line)))
 
 -- The v lines are numbered 1, 2, 3 and so on.
 abbrev pub vertex-after : ℕ → Event → ℕ
@@ -133,3 +134,25 @@ reading-from place vertex text mark = read-lines place vertex (lines mark text) 
 -- The meaning of a new reader: the whole text, from line 1 on, its first vertex being 1.
 abbrev pub reading : Meaning Event
 reading = reading-from 1 1
+
+-- What one next leaves unread of the bytes kept: it reads and drops complete lines, through the first with an event; a faulty
+-- line and all behind it are kept, and so is an incomplete line at the end.
+abbrev pub rejoined : List (List ℕ) → List ℕ
+rejoined [] = []
+rejoined (p ∷ []) = p
+rejoined (p ∷ (q ∷ ps)) = p ++ (10 ∷ rejoined (q ∷ ps))
+
+abbrev pub after-line : LineContent → List ℕ → List ℕ → List ℕ → List ℕ
+after-line Nothing all behind later = later
+after-line (Gives e) all behind later = behind
+after-line (Wrong c) all behind later = all
+
+abbrev pub unread-pieces : Mark → ℕ → ℕ → List (List ℕ) → List ℕ
+unread-pieces mark place vertex [] = []
+unread-pieces unclosed place vertex (rest ∷ []) = rest
+unread-pieces closed place vertex (rest ∷ []) = cond (some-bytes rest) (after-line (line-content place vertex rest) rest [] []) []
+unread-pieces mark place vertex (line ∷ (next ∷ more)) =
+    after-line (line-content place vertex line) (rejoined (line ∷ (next ∷ more))) (rejoined (next ∷ more)) (unread-pieces mark (suc place) vertex (next ∷ more))
+
+abbrev pub unread : Mark → ℕ → ℕ → List ℕ → List ℕ
+unread mark place vertex kept = unread-pieces mark place vertex (pieces line-end kept)

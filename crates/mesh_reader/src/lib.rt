@@ -2,4 +2,5 @@
 pub mod content;
 mod line;
 pub mod numeral;
-mod scan;
+pub mod reader;
+pub mod scan;

@@ -7,6 +7,7 @@ ghost use Rattle.mesh_reader.specs.Text.{blank, words, line-end};
 ghost use Rattle.mesh_reader.specs.Numerals.{coordinate-of, vertex-of};
 ghost use Rattle.mesh_reader.specs.Scanning.{front, rest-words, rest-numerals, Within};
 ghost use Rattle.mesh_reader.specs.Reading.{first-word, three-of, one-of, of-three, of-one, content-of, vertex-event, by-letter, by-words};
+ghost use Rattle.mesh_reader.specs.Keeping.{Front};
 ghost use Rattle.mesh_reader.specs.Lines.{Begun};
 use super::content::FirstWord;
 use super::content::LineContent;
@@ -176,5 +177,36 @@ pub fn read_line(bytes: &[u8], place: u32, number: u32) -> Scanned<LineContent>
     Scanned {
         found: read.found,
         at: line_stop(bytes, read.at),
+    }
+}
+
+// The line at the front of the bytes kept, unless it is incomplete: what it holds, and how many bytes it takes up. No more than
+// 128 bytes are looked at, since a line that long is at fault.
+pub fn front_line(
+    kept: &[u8],
+    closed: bool,
+    place: u32,
+    number: u32,
+) -> Option<Scanned<LineContent>>
+    ensures { λ r. ⌜ Front closed place number (now (kept .entry)) r ⌝ }
+{
+    let length = kept.len().min(128);
+    let line = read_line(&kept[0..length], place, number);
+    if line.at < length {
+        return Some(Scanned {
+            found: line.found,
+            at: line.at + 1,
+        });
+    }
+    if length == 128 {
+        return Some(Scanned {
+            found: LineContent::Wrong(Cause::LineTooLong),
+            at: 128,
+        });
+    }
+    if closed && length > 0 {
+        Some(line)
+    } else {
+        None
     }
 }

@@ -1,0 +1,20 @@
+ghost use Prim.Native.Nat.{_≤_};
+
+pub mod inlet;
+
+// The text reader. It keeps the bytes that it took and has not read yet, `bytes[start..end]`; reading a line moves `start`, and
+// only feeding moves bytes.
+pub struct TextReader {
+    bytes: [u8; 4096],
+    start: usize,
+    end: usize,
+    // the number of the next line
+    line: u32,
+    // the number of the next vertex
+    vertex: u32,
+    closed: bool,
+    ghost ordered: { start ≤ end },
+    ghost inside: { end ≤ 4096 },
+    ghost lines: { line ≤ 1000000001 },
+    ghost vertices: { vertex ≤ line },
+}
