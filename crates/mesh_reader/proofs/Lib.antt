@@ -4,3 +4,4 @@ mod Magnitudes
 mod Minus
 mod FirstWords
 mod FrontLines
+mod LinesTaken

@@ -5,3 +5,4 @@ pub mod ReadingLaw
 pub mod Scanning
 pub mod Lines
 pub mod Keeping
+pub mod Readers

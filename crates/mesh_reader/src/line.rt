@@ -6,7 +6,7 @@ ghost use Rattle.mesh_stream.specs.declared.event.Event.the-variants.{Triangle 
 ghost use Rattle.mesh_reader.specs.Text.{blank, words, line-end};
 ghost use Rattle.mesh_reader.specs.Numerals.{coordinate-of, vertex-of};
 ghost use Rattle.mesh_reader.specs.Scanning.{front, rest-words, rest-numerals, Within};
-ghost use Rattle.mesh_reader.specs.Reading.{first-word, three-of, one-of, of-three, of-one, content-of, vertex-event, by-letter, by-words};
+ghost use Rattle.mesh_reader.specs.Reading.{first-word, three-of, one-of, of-three, of-one, content-of, vertex-event, by-letter, by-words, in-time};
 ghost use Rattle.mesh_reader.specs.Keeping.{Front};
 ghost use Rattle.mesh_reader.specs.Lines.{Begun};
 use super::content::FirstWord;
@@ -178,6 +178,13 @@ pub fn read_line(bytes: &[u8], place: u32, number: u32) -> Scanned<LineContent>
         found: read.found,
         at: line_stop(bytes, read.at),
     }
+}
+
+// A text has at most 1,000,000,000 lines: what the next one holds is not looked at.
+pub fn in_time(place: u32, content: LineContent) -> LineContent
+    ensures { λ r. ⌜ r ≡ in-time place content ⌝ }
+{
+    if place > 1_000_000_000 { LineContent::Wrong(Cause::TooManyLines) } else { content }
 }
 
 // The line at the front of the bytes kept, unless it is incomplete: what it holds, and how many bytes it takes up. No more than
