@@ -1,3 +1,4 @@
 pub mod Placing
+pub mod Fixed
 pub mod Listing
 pub mod Gridding

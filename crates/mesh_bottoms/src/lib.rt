@@ -1,1 +1,2 @@
 // The bottoms that take no text: the list stage and the grid.
+pub mod list;
