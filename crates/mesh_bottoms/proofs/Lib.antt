@@ -1,1 +1,4 @@
 pub mod Records
+pub mod Bounds
+pub mod States
+pub mod Positions

@@ -2,3 +2,5 @@ pub mod Placing
 pub mod Fixed
 pub mod Listing
 pub mod Gridding
+pub mod Walking
+pub mod Steps

@@ -1,2 +1,3 @@
 // The bottoms that take no text: the list stage and the grid.
+pub mod grid;
 pub mod list;
