@@ -8,9 +8,12 @@ use lib.Dec.{ltb}
 use Rattle.std.specs.shelf.Lists.{joined}
 use Rattle.std.proofs.shelf.Tests.{lt-ltb, le-ltb, cases-lt}
 use Rattle.mesh_stream.specs.declared.event.Event.{Event}
+use Rattle.mesh_stream.specs.declared.stage.Standing.the-variants.{Ended}
 use Rattle.mesh_stream.specs.Lists.{counting}
+use Rattle.mesh_stream.specs.Meaning.{outcome}
 use Rattle.mesh_bottoms.specs.declared.grid.part.Part.the-variants.{NewVertex}
-use Rattle.mesh_bottoms.specs.Gridding.{when, grid-at, grid-row}
+use Rattle.mesh_bottoms.specs.Placing.{in-places}
+use Rattle.mesh_bottoms.specs.Gridding.{when, grid-at, grid-row, grid}
 use Rattle.mesh_bottoms.specs.Walking.{from-part, row-from, rows-from, behind, grid-left}
 
 counting-first : (k n : ℕ) → 0 < n → counting k n ≡ k ∷ counting (k + 1) (n - 1)
@@ -58,5 +61,6 @@ module _ (w h s : ℕ) where
   next-row r c k l =
       row-start (r + 1) k ∙ ap (λ (z : List Event). z ++ rows-from w h s (r + 1)) (sym (from-none (grid-at w h s r) (c + 1) w l))
 
-  pub all-left : 1 ≤ w → grid-left w h s 0 0 NewVertex ≡ joined (grid-row w h s) (counting 0 h)
-  all-left l = row-start 0 l ∙ from-start (grid-row w h s) h
+  -- from the first position on it is the whole grid
+  pub all-left : 1 ≤ w → outcome (in-places 1 (grid-left w h s 0 0 NewVertex)) Ended ≡ grid w h s
+  all-left l = ap (λ (z : List Event). outcome (in-places 1 z) Ended) (row-start 0 l ∙ from-start (grid-row w h s) h)

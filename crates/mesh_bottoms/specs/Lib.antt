@@ -4,3 +4,4 @@ pub mod Listing
 pub mod Gridding
 pub mod Walking
 pub mod Steps
+pub mod Starting

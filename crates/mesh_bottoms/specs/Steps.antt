@@ -4,9 +4,12 @@ use mathlib.Core.List.{List, _++_}
 use Prim.Native.Nat.{_+_}
 use Rattle.std.specs.declared.option.Option.{Option}
 use Rattle.mesh_stream.specs.declared.event.Event.{Event}
+use Rattle.mesh_stream.specs.declared.stage.Standing.the-variants.{Ended}
 use Rattle.mesh_stream.specs.Events.{placed}
+use Rattle.mesh_stream.specs.Meaning.{Outcome, outcome}
 use Rattle.mesh_bottoms.specs.declared.grid.Grid.{Grid}
 use Rattle.mesh_bottoms.specs.declared.grid.part.Part.{Part}
+use Rattle.mesh_bottoms.specs.Placing.{in-places}
 use Rattle.mesh_bottoms.specs.Walking.{part-event, after-part, Follows, behind, grid-left}
 
 -- the event at hand
@@ -16,6 +19,10 @@ event-of g = placed (g .place) (part-event (g .columns) (g .step) (g .row) (g .c
 -- what the grid still has to hand over; the places are set afterwards
 abbrev pub left-of : Grid → List Event
 left-of g = grid-left (g .columns) (g .rows) (g .step) (g .row) (g .column) (g .part)
+
+-- what it means, whatever the text and the mark
+abbrev pub outcome-of : Grid → Outcome Event
+outcome-of g = outcome (in-places (g .place) (left-of g)) Ended
 
 -- what it has behind this position
 abbrev pub behind-of : Grid → List Event

@@ -6,6 +6,8 @@ ghost use Rattle.mesh_bottoms.specs.Walking.{turn};
 use crate::grid::part::Part;
 
 mod part;
+pub mod stage;
+pub mod start;
 mod walk;
 
 // A flat mesh over the positions of a grid, row by row. It keeps nothing but the position and the part at hand.
