@@ -9,7 +9,7 @@ use Rattle.std.proofs.shelf.Lists.{drop-all, drop-more}
 use Rattle.mesh_stream.specs.declared.event.Event.{Event}
 use Rattle.mesh_stream.specs.declared.stage.Standing.the-variants.{Ended}
 use Rattle.mesh_stream.specs.Events.{placed}
-use Rattle.mesh_stream.specs.Meaning.{Outcome, outcome, prepend}
+use Rattle.mesh_stream.specs.Meaning.{outcome, prepend}
 use Rattle.mesh_bottoms.specs.Placing.{in-places}
 use Rattle.mesh_bottoms.specs.Listing.{listed-from}
 

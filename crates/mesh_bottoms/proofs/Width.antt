@@ -1,6 +1,6 @@
 -- The width of the grid of w columns is at most w + 2.
-use mathlib.Core.Path.{_≡_, refl, sym, ap, subst, _∙_}
-use mathlib.Core.List.{List, [], _∷_, _++_, append-nil}
+use mathlib.Core.Path.{_≡_, refl, sym, ap, subst}
+use mathlib.Core.List.{List, [], _∷_, _++_}
 use mathlib.Core.Bool.{Bool, true, false, _&&_}
 use Prim.Native.Nat.{ℕ, zero, suc, _+_, _-_, _*_, _≤_}
 use native.Mathlib.Nat.{suc-mul}
@@ -12,10 +12,9 @@ use Rattle.std.proofs.shelf.Tests.{both-ways, eq-eqb, le-leb, and-from, and-rig
 use Rattle.mesh_stream.specs.declared.event.Event.{Event}
 use Rattle.mesh_stream.specs.declared.event.Event.the-variants.{Vertex, Triangle, Finalization}
 use Rattle.mesh_stream.specs.Lists.{counting}
-use Rattle.mesh_stream.specs.Live.{width, width-after}
-use Rattle.mesh_bottoms.specs.Placing.{in-places}
+use Rattle.mesh_stream.specs.Live.{width}
 use Rattle.mesh_bottoms.specs.Gridding.{when, grid-cell, grid-at, grid-row, grid}
-use Rattle.mesh_bottoms.proofs.Lives.{Held, Leads, none, chain, vertex, triangle, final, next-final}
+use Rattle.mesh_bottoms.proofs.Lives.{Leads, none, chain, vertex, triangle, final, next-final}
 
 module _ (w high low : ℕ) (place i : ℕ) (slack : high ≤ low + w + 2) where
   when-final : (b : Bool) → Leads w (when b (Finalization place i ∷ [])) high low high low
