@@ -1,6 +1,7 @@
 ghost use mathlib.Core.Path.{_≡_};
 ghost use Prim.Native.Nat.{_-_, _*_, _≤_, _<_};
 ghost use lib.IntN.{pos};
+ghost use Rattle.mesh_stream.specs.declared.event.Event.the-variants.{Triangle, Finalization};
 ghost use Rattle.mesh_bottoms.specs.Walking.{turn};
 ghost use Rattle.mesh_bottoms.specs.Steps.{event-of, Followed, Moved, Advanced};
 use crate::grid::Grid;
@@ -30,44 +31,46 @@ impl Grid {
         self.number - self.columns
     }
 
+    // A triangle with these corners.
+    fn triangle(&self, a: u32, b: u32, c: u32) -> Event
+        ensures { λ r. ⌜ r ≡ Triangle (now (self .entry) .place) a b c ⌝ }
+    {
+        Event::Triangle {
+            place: self.place,
+            a,
+            b,
+            c,
+        }
+    }
+
+    // The finalization of this vertex.
+    fn finalization(&self, vertex: u32) -> Event
+        ensures { λ r. ⌜ r ≡ Finalization (now (self .entry) .place) vertex ⌝ }
+    {
+        Event::Finalization {
+            place: self.place,
+            vertex,
+        }
+    }
+
     // The event at hand.
     pub(super) fn event(&self) -> Event
         requires { ⌜ now self .row < now self .rows ⌝ }
         ensures { λ r. ⌜ r ≡ event-of (now (self .entry)) ⌝ }
     {
-        let place = self.place;
         let n = self.number;
         match self.part {
             Part::NewVertex => Event::Vertex {
-                place,
+                place: self.place,
                 number: n,
                 at: self.point(),
             },
-            Part::FirstTriangle => Event::Triangle {
-                place,
-                a: self.above() - 1,
-                b: self.above(),
-                c: n,
-            },
-            Part::SecondTriangle => Event::Triangle {
-                place,
-                a: self.above() - 1,
-                b: n,
-                c: n - 1,
-            },
-            Part::FinalizationOfP => Event::Finalization {
-                place,
-                vertex: self.above() - 1,
-            },
-            Part::FinalizationOfQ => Event::Finalization {
-                place,
-                vertex: self.above(),
-            },
-            Part::FinalizationOfM => Event::Finalization {
-                place,
-                vertex: n - 1,
-            },
-            Part::FinalizationOfN => Event::Finalization { place, vertex: n },
+            Part::FirstTriangle => self.triangle(self.above() - 1, self.above(), n),
+            Part::SecondTriangle => self.triangle(self.above() - 1, n, n - 1),
+            Part::FinalizationOfP => self.finalization(self.above() - 1),
+            Part::FinalizationOfQ => self.finalization(self.above()),
+            Part::FinalizationOfM => self.finalization(n - 1),
+            Part::FinalizationOfN => self.finalization(n),
         }
     }
 
