@@ -10,14 +10,22 @@ use mesh_stream::event::Event;
 use mesh_stream::event::Point;
 
 impl Grid {
+    // How far so many steps lead.
+    fn coordinate(&self, steps: u32) -> i32
+        requires { ⌜ steps * now self .step ≤ 100000 ⌝ }
+        ensures { λ r. ⌜ r ≡ pos (steps * now (self .entry) .step) ⌝ }
+    {
+        (steps * self.step) as i32
+    }
+
     // Where the vertex of this position stands.
     fn point(&self) -> Point
         requires { ⌜ now self .row < now self .rows ⌝ }
         ensures { λ r. ⌜ r ≡ record { x = pos (now (self .entry) .column * now (self .entry) .step); y = pos (now (self .entry) .row * now (self .entry) .step); z = pos 0 } ⌝ }
     {
         Point {
-            x: (self.column * self.step) as i32,
-            y: (self.row * self.step) as i32,
+            x: self.coordinate(self.column),
+            y: self.coordinate(self.row),
             z: 0,
         }
     }

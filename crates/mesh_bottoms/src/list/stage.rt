@@ -3,7 +3,6 @@ ghost use Rattle.mesh_stream.specs.Meaning.{textless};
 ghost use Rattle.mesh_bottoms.specs.Listing.{listed-from};
 ghost use Rattle.mesh_bottoms.specs.Fixed.{ended-lawful};
 use crate::list::ListStage;
-use crate::list::MOST_RECORDS;
 use mesh_stream::event::Event;
 use mesh_stream::stage::Answer;
 use mesh_stream::stage::Stage;
@@ -19,12 +18,11 @@ pub impl Stage for ListStage<'_> as ListStageStage {
     ghost lawful = { λ l. ended-lawful (listed-from (l .given) (now (l .records)) .items) };
 
     fn next(&mut self) -> Answer<Event> {
-        let index = self.given as usize;
-        if self.given >= MOST_RECORDS || index >= self.records.len() {
+        if self.is_done() {
             return Answer::Idle(Standing::Ended);
         }
-        let record = self.records[index];
+        let event = self.records[self.given as usize].placed_at(self.place());
         self.given += 1;
-        Answer::Item(record.placed_at(self.given))
+        Answer::Item(event)
     }
 }
