@@ -100,7 +100,7 @@ module _ (w : ℕ) where
         (width-both (w + 2) (in-places place xs) es (in-places (t .0) ys) (x .narrow es place h) (y .narrow (es ++ in-places place xs) (t .0) (x .held es place h)));
   }
 
-  pub one : (e : Event) (high low high′ low′ : ℕ) → high′ ≤ low′ + w + 2 → ((es : List Event) (place : ℕ) → Held es high low → Held (es ++ (placed place e ∷ [])) high′ low′)
+  one : (e : Event) (high low high′ low′ : ℕ) → high′ ≤ low′ + w + 2 → ((es : List Event) (place : ℕ) → Held es high low → Held (es ++ (placed place e ∷ [])) high′ low′)
       → Leads w (e ∷ []) high low high′ low′
   one e high low high′ low′ s held = record {
     held = held;

@@ -1,13 +1,13 @@
 -- What is left of the records, at the end and one record on.
-use mathlib.Core.Path.{_≡_, refl, sym, ap, _∙_}
+use mathlib.Core.Path.{_≡_, sym, ap, _∙_}
 use mathlib.Core.List.{List, [], _∷_}
 use mathlib.Core.Bool.{true, false}
 use mathlib.Core.Logic.{_⊎_, inl, inr}
-use Prim.Native.Nat.{ℕ, zero, suc, _+_, _-_}
+use Prim.Native.Nat.{ℕ, suc, _+_, _-_}
 use native.Mathlib.Omega.{arith}
 use lib.Dec.{leb}
 use lib.ListN.{length, getD, take, drop}
-use Rattle.std.proofs.shelf.Lists.{drop-all, drop-more}
+use Rattle.std.proofs.shelf.Lists.{drop-all, drop-more, take-all}
 use Rattle.std.proofs.shelf.Tests.{leb-true, leb-false, or-cases, or-parts}
 use Rattle.mesh_stream.specs.declared.event.Event.{Event}
 use Rattle.mesh_stream.specs.declared.stage.Standing.the-variants.{Ended}
@@ -15,10 +15,6 @@ use Rattle.mesh_stream.specs.Events.{placed}
 use Rattle.mesh_stream.specs.Meaning.{outcome, prepend}
 use Rattle.mesh_bottoms.specs.Placing.{in-places}
 use Rattle.mesh_bottoms.specs.Listing.{listed-from, all-given}
-
-take-none : (n : ℕ) → _≡_ {A = List Event} (take n []) []
-take-none zero = refl
-take-none (suc n) = refl
 
 module _ (given : ℕ) (records : List Event) where
   pub none-left : all-given given records ≡ true → listed-from given records ≡ outcome [] Ended
@@ -30,7 +26,7 @@ module _ (given : ℕ) (records : List Event) where
           ap (λ k. outcome (in-places (given + 1) (take k (drop given records))) Ended) n
       at (inr all) =
           ap (λ (es : List Event). outcome (in-places (given + 1) (take (1000000000 - given) es)) Ended) (drop-all given records (leb-true (length records) given all))
-          ∙ ap (λ (es : List Event). outcome (in-places (given + 1) es) Ended) (take-none (1000000000 - given))
+          ∙ ap (λ (es : List Event). outcome (in-places (given + 1) es) Ended) (take-all (1000000000 - given) [] (omega arith))
 
   pub one-left : (d e : Event) (place : ℕ) → all-given given records ≡ false → place ≡ given + 1 → e ≡ placed place (getD records given d) → listed-from given records ≡ prepend e (listed-from (given + 1) records)
   one-left d e place more at is =

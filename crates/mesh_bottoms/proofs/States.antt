@@ -14,7 +14,7 @@ use Rattle.mesh_bottoms.specs.Placing.{in-places}
 use Rattle.mesh_bottoms.specs.Gridding.{when}
 use Rattle.mesh_bottoms.specs.Walking.{turn, from-part}
 use Rattle.mesh_bottoms.specs.Steps.{event-of, outcome-of, behind-of, rest-of, Advanced}
-use Rattle.mesh_bottoms.proofs.Bounds.{Bounds, bounds, x-bound, y-bound, number-bound, row-before}
+use Rattle.mesh_bottoms.proofs.Bounds.{x-bound, y-bound, number-bound, row-before}
 
 turn-high : (part : Part) → turn part ≤ 6
 turn-high NewVertex = omega arith
@@ -26,9 +26,6 @@ turn-high FinalizationOfM = omega arith
 turn-high FinalizationOfN = omega arith
 
 module _ (g : Grid) where
-  pub grid-bounds : Bounds (g .columns) (g .rows) (g .step)
-  grid-bounds = bounds (g .columns) (g .rows) (g .step) (g .allowed)
-
   pub grid-x : g .column * g .step ≤ 100000
   grid-x = x-bound (g .columns) (g .rows) (g .step) (g .allowed) (g .column) (g .within)
 

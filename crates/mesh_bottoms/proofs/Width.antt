@@ -26,7 +26,7 @@ module _ (w high low : ℕ) (place i : ℕ) (slack : high ≤ low + w + 2) where
   when-next false t e = absurd (both-ways false refl t)
 
 module _ (w h s r : ℕ) where
-  -- the position behind the first row and column: `done` and `low` are the finalized vertices without and with that of q
+  -- a position behind the first row and column: the vertices up to `low` are finalized before it, and those up to `done` after it
   module _ (c high low done : ℕ) (inner : 1 ≤ c) (at-high : high ≡ suc r * w + c) (at-low : suc low ≡ r * w + c) where
     abbrev n : ℕ
     n = suc r * w + c + 1

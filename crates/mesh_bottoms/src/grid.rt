@@ -7,7 +7,7 @@ use crate::grid::part::Part;
 
 mod part;
 pub mod stage;
-pub mod start;
+mod start;
 mod walk;
 
 // A flat mesh over the positions of a grid, row by row. It keeps nothing but the position and the part at hand.
@@ -27,7 +27,7 @@ pub struct Grid {
     ghost allowed: { grid-allowed columns rows step ≡ true },
     ghost within: { column < columns },
     ghost counted: { number ≡ row * columns + column + 1 },
-    // only the vertex comes at the first row and the first column
+    // in the first row and the first column only the vertex comes
     ghost inner: { (min (turn part) 1 ≤ row) × (min (turn part) 1 ≤ column) },
     // no position has more than 7 events
     ghost seven: { place + 6 ≤ 7 * number + turn part },

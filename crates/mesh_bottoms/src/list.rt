@@ -1,7 +1,7 @@
 use mesh_stream::event::Event;
 
 pub mod stage;
-pub mod start;
+mod start;
 mod walk;
 
 // A stage over lent records. The place of each event that it hands over is its position, counted from 1.
