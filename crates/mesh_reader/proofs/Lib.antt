@@ -5,3 +5,4 @@ mod Minus
 mod FirstWords
 mod FrontLines
 mod LinesTaken
+mod Feeding

@@ -1,12 +1,15 @@
 -- The text reader by its fields.
 use mathlib.Core.Path.{_≡_}
-use mathlib.Core.List.{List}
+use mathlib.Core.List.{List, _++_}
 use Prim.Native.Nat.{ℕ, _<_}
-use lib.ListN.{length}
+use lib.ListN.{length, take}
 use Rattle.std.specs.Holes.{between}
 use Rattle.std.specs.declared.option.Option.{Option}
 use Rattle.std.specs.declared.option.Option.the-variants.{Some, None}
+use Rattle.std.specs.declared.result.Result.{Result}
+use Rattle.std.specs.declared.result.Result.the-variants.{Ok, Err}
 use Rattle.mesh_stream.specs.declared.event.Event.{Event}
+use Rattle.mesh_stream.specs.declared.fault.Refusal.{Refusal}
 use Rattle.mesh_stream.specs.declared.stage.Answer.{Answer}
 use Rattle.mesh_stream.specs.Meaning.{Meaning, Port, Same, Lawful}
 use Rattle.mesh_stream.specs.Calls.{SameKind, Nexted}
@@ -46,3 +49,14 @@ pub record Answered (r : TextReader) (a : Answer Event) (s : TextReader) : Type 
 abbrev pub LineTaken : TextReader → Option (Answer Event) → TextReader → Type 0
 LineTaken r None s = Dropped r s
 LineTaken r (Some a) s = Answered r a s
+
+-- Only the bytes moved: the counts and whether it is closed are as they were.
+pub record SameBut (r s : TextReader) : Type 0 where
+  pub line : s .line ≡ r .line
+  pub vertex : s .vertex ≡ r .vertex
+  pub closed : s .closed ≡ r .closed
+
+-- What is kept after feeding.
+abbrev pub kept-fed : List ℕ → List ℕ → Result ℕ Refusal → List ℕ
+kept-fed old piece (Ok k) = old ++ take k piece
+kept-fed old piece (Err e) = old

@@ -184,7 +184,11 @@ pub fn read_line(bytes: &[u8], place: u32, number: u32) -> Scanned<LineContent>
 pub fn in_time(place: u32, content: LineContent) -> LineContent
     ensures { λ r. ⌜ r ≡ in-time place content ⌝ }
 {
-    if place > 1_000_000_000 { LineContent::Wrong(Cause::TooManyLines) } else { content }
+    if place > 1_000_000_000 {
+        LineContent::Wrong(Cause::TooManyLines)
+    } else {
+        content
+    }
 }
 
 // The line at the front of the bytes kept, unless it is incomplete: what it holds, and how many bytes it takes up. No more than

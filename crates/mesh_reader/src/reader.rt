@@ -1,4 +1,6 @@
+ghost use mathlib.Core.Path.{_≡_};
 ghost use Prim.Native.Nat.{_≤_};
+ghost use lib.ListN.{length};
 
 pub mod inlet;
 
@@ -13,6 +15,7 @@ pub struct TextReader {
     // the number of the next vertex
     vertex: u32,
     closed: bool,
+    ghost size: { length bytes ≡ 4096 },
     ghost ordered: { start ≤ end },
     ghost inside: { end ≤ 4096 },
     ghost lines: { line ≤ 1000000001 },

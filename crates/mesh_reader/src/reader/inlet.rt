@@ -1,5 +1,6 @@
 ghost use mathlib.Core.Path.{_≡_};
-ghost use Rattle.mesh_reader.specs.Readers.{reader-means, reader-port, reader-lawful, LineTaken};
+ghost use Rattle.mesh_reader.specs.Readers.{kept, leaves, reader-means, reader-port, reader-lawful, LineTaken, SameBut, kept-fed};
+ghost use Rattle.mesh_stream.specs.Calls.{Nexted, Fed, Closed};
 use super::TextReader;
 use crate::content::LineContent;
 use crate::line::front_line;
@@ -7,7 +8,10 @@ use crate::line::in_time;
 use mesh_stream::event::Event;
 use mesh_stream::fault::Fault;
 use mesh_stream::fault::LayerName;
+use mesh_stream::fault::Refusal;
 use mesh_stream::stage::Answer;
+use mesh_stream::stage::Inlet;
+use mesh_stream::stage::Stage;
 use mesh_stream::stage::Standing;
 
 impl TextReader {
@@ -15,12 +19,25 @@ impl TextReader {
     fn take_line(&mut self) -> Option<Answer<Event>>
         ensures { λ r. ⌜ LineTaken (now (self .entry)) r (now (self .exit)) ⌝ }
     {
-        let Some(line) = front_line(&self.bytes[self.start..self.end], self.closed, self.line, self.vertex) else {
-            return Some(Answer::Idle(if self.closed { Standing::Ended } else { Standing::Waiting }));
+        let Some(line) = front_line(
+            &self.bytes[self.start..self.end],
+            self.closed,
+            self.line,
+            self.vertex,
+        ) else {
+            return Some(Answer::Idle(if self.closed {
+                Standing::Ended
+            } else {
+                Standing::Waiting
+            }));
         };
         match in_time(self.line, line.found) {
             LineContent::Wrong(cause) => {
-                let fault = Fault { layer: LayerName::Reader, cause, place: self.line };
+                let fault = Fault {
+                    layer: LayerName::Reader,
+                    cause,
+                    place: self.line,
+                };
                 Some(Answer::Idle(Standing::Faulty(fault)))
             }
             LineContent::Nothing => {
@@ -37,5 +54,76 @@ impl TextReader {
                 Some(Answer::Item(event))
             }
         }
+    }
+}
+
+impl TextReader {
+    // Moves the bytes kept to the front of the array, so that all of the room lies behind them.
+    fn move_to_front(&mut self)
+        ensures moved { λ _. ⌜ kept (now (self .exit)) ≡ kept (now (self .entry)) ⌝ }
+        ensures start { λ _. ⌜ now (self .exit) .start ≡ 0 ⌝ }
+        ensures same { λ _. ⌜ SameBut (now (self .entry)) (now (self .exit)) ⌝ }
+    {
+        let kept = self.end - self.start;
+        self.bytes.copy_within(self.start..self.end, 0);
+        self.start = 0;
+        self.end = kept;
+    }
+}
+
+pub impl Stage for TextReader as TextReaderStage {
+    type Item = Event;
+
+    ghost meaning = { reader-means };
+
+    ghost port = { reader-port };
+
+    ghost lawful = { reader-lawful };
+
+    fn next(&mut self) -> Answer<Event>
+        ensures rule { λ r. ⌜ Nexted (reader-port (now (self .entry))) (reader-means (now (self .entry))) r (reader-port (now (self .exit))) (reader-means (now (self .exit))) ⌝ }
+        ensures left { λ r. ⌜ kept (now (self .exit)) ≡ leaves (now (self .entry)) ⌝ }
+    {
+        loop {
+            if let Some(answer) = self.take_line() {
+                return answer;
+            }
+        }
+    }
+}
+
+pub impl Inlet for TextReader as TextReaderInlet {
+    fn room(&self) -> usize {
+        if self.closed {
+            0
+        } else {
+            4096 - (self.end - self.start)
+        }
+    }
+
+    fn feed(&mut self, piece: &[u8]) -> Result<usize, Refusal>
+        ensures rule { λ r. ⌜ Fed (reader-port (now (self .entry))) (reader-means (now (self .entry))) (now (piece .entry)) r (reader-port (now (self .exit))) (reader-means (now (self .exit))) ⌝ }
+        ensures kept { λ r. ⌜ kept (now (self .exit)) ≡ kept-fed (kept (now (self .entry))) (now (piece .entry)) r ⌝ }
+    {
+        if self.closed {
+            return Err(Refusal::InletClosed);
+        }
+        self.move_to_front();
+        let taken = piece.len().min(4096 - self.end);
+        let end = self.end + taken;
+        self.bytes[self.end..end].copy_from_slice(&piece[0..taken]);
+        self.end = end;
+        Ok(taken)
+    }
+
+    fn close(&mut self) -> Result<(), Refusal>
+        ensures rule { λ r. ⌜ Closed (reader-port (now (self .entry))) (reader-means (now (self .entry))) r (reader-port (now (self .exit))) (reader-means (now (self .exit))) ⌝ }
+        ensures kept { λ _. ⌜ kept (now (self .exit)) ≡ kept (now (self .entry)) ⌝ }
+    {
+        if self.closed {
+            return Err(Refusal::InletClosed);
+        }
+        self.closed = true;
+        Ok(())
     }
 }
