@@ -3,6 +3,7 @@ ghost use Prim.Native.Nat.{_≤_};
 ghost use lib.ListN.{length};
 
 pub mod inlet;
+mod start;
 
 // The text reader. It keeps the bytes that it took and has not read yet, `bytes[start..end]`; reading a line moves `start`, and
 // only feeding moves bytes.

@@ -64,6 +64,9 @@ impl TextReader {
         ensures start { λ _. ⌜ now (self .exit) .start ≡ 0 ⌝ }
         ensures same { λ _. ⌜ SameBut (now (self .entry)) (now (self .exit)) ⌝ }
     {
+        if self.start == 0 {
+            return;
+        }
         let kept = self.end - self.start;
         self.bytes.copy_within(self.start..self.end, 0);
         self.start = 0;
