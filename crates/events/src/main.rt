@@ -16,12 +16,16 @@ use mesh_stream::stage::Standing;
 use mesh_stream::stage::StandingPartialEq;
 use std::env;
 use std::error::AnyError;
+use std::io;
 use std::io::BufWriter;
 use std::io::Read;
 use std::io::Write;
 
 // Hands the events that the stage has now to the listing, and answers how the stage stands then.
-fn list_events<S: Stage<Item = Event>, W: Write>(stage: &mut S, listing: &mut Listing<W>) -> Result<Standing, AnyError> {
+fn list_events<S: Stage<Item = Event>, W: Write>(
+    stage: &mut S,
+    listing: &mut Listing<W>,
+) -> io::Result<Standing> {
     loop {
         match stage.next() {
             Answer::Item(event) => listing.take(event)?,
@@ -39,36 +43,38 @@ struct Listing<W> {
 }
 
 impl<W: Write> Listing<W> {
-    fn take(&mut self, event: Event) -> Result<(), AnyError> {
+    fn take(&mut self, event: Event) -> io::Result<()> {
         self.count = self.count.saturating_add(1);
-        if !self.count_only {
-            writeln!(self.out, "{event}")?;
+        if self.count_only {
+            Ok(())
+        } else {
+            writeln!(self.out, "{event}")
         }
-        Ok(())
     }
 
-    fn end(&mut self, standing: Standing) -> Result<(), AnyError> {
+    fn end(&mut self, standing: Standing) -> io::Result<()> {
         if self.count_only {
             let count = self.count;
             writeln!(self.out, "{count} events")?;
         }
         writeln!(self.out, "{standing}")?;
-        self.out.flush()?;
-        Ok(())
+        self.out.flush()
     }
 }
 
 // Reads into the front of the piece, at most so many bytes.
-fn read_piece<R: Read>(input: &mut R, piece: &mut [u8], most: usize) -> Result<usize, AnyError>
+fn read_piece<R: Read>(input: &mut R, piece: &mut [u8], most: usize) -> io::Result<usize>
     ensures { λ r. ⌜ made r (λ n. n ≤ length (now (piece .entry))) ⌝ }
 {
     let most = most.min(piece.len());
-    let length = input.read(&mut piece[0..most])?;
-    Ok(length)
+    input.read(&mut piece[0..most])
 }
 
 // Feeds the reader from the input, never more than it has room for, until the text ends or is at fault.
-fn list_text<R: Read, W: Write>(input: &mut R, listing: &mut Listing<W>) -> Result<Standing, AnyError> {
+fn list_text<R: Read, W: Write>(
+    input: &mut R,
+    listing: &mut Listing<W>,
+) -> Result<Standing, AnyError> {
     let mut reader = TextReader::new();
     let mut piece = [0; 4096];
     for _ in 0..u64::MAX {
@@ -83,7 +89,8 @@ fn list_text<R: Read, W: Write>(input: &mut R, listing: &mut Listing<W>) -> Resu
         }
     }
     reader.close()?;
-    list_events(&mut reader, listing)
+    let standing = list_events(&mut reader, listing)?;
+    Ok(standing)
 }
 
 fn run(rt: &LibcRuntime) -> Result<(), AnyError> {
@@ -94,9 +101,14 @@ fn run(rt: &LibcRuntime) -> Result<(), AnyError> {
         }
         count_only = true;
     }
-    let mut listing = Listing { out: BufWriter::new(rt.stdout()), count_only, count: 0 };
+    let mut listing = Listing {
+        out: BufWriter::new(rt.stdout()),
+        count_only,
+        count: 0,
+    };
     let standing = list_text(&mut rt.stdin(), &mut listing)?;
-    listing.end(standing)
+    listing.end(standing)?;
+    Ok(())
 }
 
 fn main(rt: LibcRuntime) -> Result<(), AnyError> {
