@@ -6,3 +6,4 @@ pub mod Live
 pub mod Ranges
 pub mod Meaning
 pub mod Calls
+pub mod Runs
