@@ -6,3 +6,4 @@ pub mod Scanning
 pub mod Lines
 pub mod Keeping
 pub mod Readers
+pub mod Examples

@@ -1,6 +1,7 @@
 // The text reader: mesh text in, events out.
-pub mod content;
+mod content;
+pub mod examples;
 mod line;
-pub mod numeral;
+mod numeral;
 pub mod reader;
-pub mod scan;
+mod scan;

@@ -7,6 +7,7 @@ mod start;
 
 // The text reader. It keeps the bytes that it took and has not read yet, `bytes[start..end]`; reading a line moves `start`, and
 // only feeding moves bytes.
+#[derive(Drop)]
 pub struct TextReader {
     bytes: [u8; 4096],
     start: usize,

@@ -1,4 +1,5 @@
 pub mod Numbers
+pub mod Shown
 pub mod Lists
 pub mod Events
 pub mod Live
