@@ -4,6 +4,7 @@ use mesh_reader::reader::inlet::TextReaderInlet;
 use mesh_reader::reader::inlet::TextReaderStage;
 use mesh_stream::event::EventDebug;
 use mesh_stream::event::EventPartialEq;
+use mesh_stream::fault::Cause;
 use mesh_stream::fault::Refusal;
 use mesh_stream::fault::RefusalDebug;
 use mesh_stream::fault::RefusalPartialEq;
@@ -61,4 +62,18 @@ fn a_piece_longer_than_the_room() -> Result<(), Fail> {
     check_gives(&mut reader, &[], Standing::Waiting)?;
     check_eq(reader.feed(b"x 1\n")?, 4)?;
     check_gives(&mut reader, &[finalization(4097, 1)], Standing::Waiting)
+}
+
+// A faulty line is not dropped, and nothing behind it counts.
+#[test]
+fn a_reader_at_fault() -> Result<(), Fail> {
+    let mut reader = open_with(b"x 1\n#\nx 0\nx 2\n")?;
+    let fault = faulty(Cause::OutOfRange, 3);
+    check_gives(&mut reader, &[finalization(1, 1)], fault)?;
+    check_eq(reader.room(), 4088)?;
+    check_eq(reader.feed(b"x 3\n")?, 4)?;
+    check_eq(reader.room(), 4084)?;
+    check_gives(&mut reader, &[], fault)?;
+    reader.close()?;
+    check_gives(&mut reader, &[], fault)
 }

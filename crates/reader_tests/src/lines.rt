@@ -21,13 +21,16 @@ fn a_line_of_127_bytes() -> Result<(), Fail> {
 
 #[test]
 fn a_line_of_128_bytes() -> Result<(), Fail> {
-    let mut comment = [b'-'; 129];
+    let mut comment = [b'-'; 128];
     comment[0] = b'#';
-    let mut ended = [b' '; 129];
-    ended[128] = b'\n';
-    let texts: [&[u8]; 4] = [&comment[0..128], &ended[0..128], &comment, &ended];
+    let blanks = [b' '; 128];
+    let mut with_line_end = [b' '; 129];
+    with_line_end[128] = b'\n';
+    let texts: [&[u8]; 3] = [&comment, &blanks, &with_line_end];
     for text in texts {
         let mut reader = open_with(text)?;
+        check_gives(&mut reader, &[], faulty(Cause::LineTooLong, 1))?;
+        reader.close()?;
         check_gives(&mut reader, &[], faulty(Cause::LineTooLong, 1))?;
     }
     Ok(())

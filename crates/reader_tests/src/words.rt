@@ -10,6 +10,14 @@ fn check_fault(text: &[u8], cause: Cause) -> Result<(), Fail> {
     check_gives(&mut reader, &[], faulty(cause, 1))
 }
 
+// Each text is one line, and all are at fault for the same cause.
+fn check_faults(texts: &[&[u8]], cause: Cause) -> Result<(), Fail> {
+    for (index, text) in texts.iter().enumerate() {
+        check_fault(text, cause).note(index)?;
+    }
+    Ok(())
+}
+
 // The text is one line, and it gives the event.
 fn check_event(text: &[u8], event: Event) -> Result<(), Fail> {
     let mut reader = closed_with(text)?;
@@ -30,13 +38,10 @@ fn unknown_first_words() -> Result<(), Fail> {
         b"\x0cx 1",
         b"fx",
     ];
-    for text in texts {
-        check_fault(text, Cause::UnknownWord)?;
-    }
-    Ok(())
+    check_faults(&texts, Cause::UnknownWord)
 }
 
-// No more than blanks divide words, and a # that is not in front starts no comment.
+// Only blanks part words, and a # behind the first word starts no comment.
 #[test]
 fn wrong_word_counts() -> Result<(), Fail> {
     let texts: [&[u8]; 12] = [
@@ -53,10 +58,7 @@ fn wrong_word_counts() -> Result<(), Fail> {
         b"v 1 2\x0b3",
         b"v 1 2\x0c3",
     ];
-    for text in texts {
-        check_fault(text, Cause::WordCount)?;
-    }
-    Ok(())
+    check_faults(&texts, Cause::WordCount)
 }
 
 #[test]
@@ -78,10 +80,7 @@ fn words_that_are_no_numbers() -> Result<(), Fail> {
         b"x 0000000001",
         b"f 1 2 a",
     ];
-    for text in texts {
-        check_fault(text, Cause::NotANumber)?;
-    }
-    Ok(())
+    check_faults(&texts, Cause::NotANumber)
 }
 
 #[test]
@@ -95,10 +94,7 @@ fn numbers_out_of_range() -> Result<(), Fail> {
         b"x 100000001",
         b"f 1 0 2",
     ];
-    for text in texts {
-        check_fault(text, Cause::OutOfRange)?;
-    }
-    Ok(())
+    check_faults(&texts, Cause::OutOfRange)
 }
 
 // The words are judged from the left, each for its form and then its range.
