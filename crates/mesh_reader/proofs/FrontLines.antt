@@ -274,37 +274,50 @@ module _ (c : Bool) (p n : ℕ) (kept window : List ℕ) (is : window ≡ take 1
         none-left : drop (length line) kept ≡ []
         none-left = drop-all (length line) kept (let w = length-window in omega arith)
 
--- The same of what was read of these bytes: f is what the line holds, and a is where it ends.
-module _ (c : Bool) (p n : ℕ) (kept window : List ℕ) (size : ℕ) (f : LineContent) (a : ℕ)
-    (sized : size ≡ min (length kept) 128) (part : window ≡ take (size - 0) kept)
-    (content : f ≡ by-words p n (words (front line-end window))) (stop : a ≡ length (front line-end window)) where
+-- What was read of the first `size` bytes kept: the line there holds f and ends at a.
+pub record Looked (p n : ℕ) (kept : List ℕ) (size : ℕ) (f : LineContent) (a : ℕ) : Type 0 where
+  pub sized : size ≡ min (length kept) 128
+  pub content : f ≡ by-words p n (words (front line-end (take (size - 0) kept)))
+  pub stop : a ≡ length (front line-end (take (size - 0) kept))
+
+module _ (c : Bool) (p n : ℕ) (kept : List ℕ) (size : ℕ) (f : LineContent) (a : ℕ) (looked : Looked p n kept size f a) where
+  abbrev window : List ℕ
+  window = take (size - 0) kept
+
   window-is : window ≡ take 128 kept
-  window-is = part ∙ by (cases-lt (length kept) 128)
+  window-is = let s = looked .sized in by s (cases-lt (length kept) 128)
     where
-      by : (length kept < 128) ⊎ (128 ≤ length kept) → take (size - 0) kept ≡ take 128 kept
-      by (inl h) = take-all (size - 0) kept (omega arith) ∙ sym (take-all 128 kept (omega arith))
-      by (inr h) = ap (λ (k : ℕ). take k kept) (let e : size - 0 ≡ 128 = omega arith in e)
+      by : size ≡ min (length kept) 128 → (length kept < 128) ⊎ (128 ≤ length kept) → take (size - 0) kept ≡ take 128 kept
+      by s (inl h) = take-all (size - 0) kept (omega arith) ∙ sym (take-all 128 kept (omega arith))
+      by s (inr h) = ap (λ (k : ℕ). take k kept) (let e : size - 0 ≡ 128 = omega arith in e)
 
   window-size : length window ≡ size
-  window-size = let e = ap length window-is in let l = length-take 128 kept in omega arith
+  window-size = let s = looked .sized in let e = ap length window-is in let l = length-take 128 kept in omega arith
+
+  at-most : size ≤ 128
+  at-most = let s = looked .sized in omega arith
 
   pub front-complete : a < size → Front c p n kept (Some (record { found = f; at = a + 1 }))
   front-complete h =
       let w = window-size in
-      subst (λ (g : LineContent). Front c p n kept (Some (record { found = g; at = a + 1 }))) (sym content)
-      (subst (λ (k : ℕ). Front c p n kept (Some (record { found = by-words p n (words (front line-end window)); at = k + 1 }))) (sym stop)
+      let m = at-most in
+      let s = looked .stop in
+      subst (λ (g : LineContent). Front c p n kept (Some (record { found = g; at = a + 1 }))) (sym (looked .content))
+      (subst (λ (k : ℕ). Front c p n kept (Some (record { found = by-words p n (words (front line-end window)); at = k + 1 }))) (sym s)
       (takes-line c p n kept window window-is (omega arith) (omega arith)))
 
   pub front-long : size ≤ a → size ≡ 128 → Front c p n kept (Some (record { found = Wrong LineTooLong; at = 128 }))
-  front-long h k = let w = window-size in too-long c p n kept window window-is (omega arith) (omega arith)
+  front-long h k = let w = window-size in let s = looked .stop in too-long c p n kept window window-is (omega arith) (omega arith)
 
   pub front-last : size ≤ a → (size ≡ 128 → ⊥) → c ≡ true → 0 < size → Front c p n kept (Some (record { found = f; at = a }))
   front-last h k e z =
       let w = window-size in
-      subst (λ (g : LineContent). Front c p n kept (Some (record { found = g; at = a }))) (sym content)
-      (subst (λ (j : ℕ). Front c p n kept (Some (record { found = by-words p n (words (front line-end window)); at = j }))) (sym stop)
+      let m = at-most in
+      let s = looked .stop in
+      subst (λ (g : LineContent). Front c p n kept (Some (record { found = g; at = a }))) (sym (looked .content))
+      (subst (λ (j : ℕ). Front c p n kept (Some (record { found = by-words p n (words (front line-end window)); at = j }))) (sym s)
       (last-line c p n kept window window-is (omega arith) (omega arith) e (omega arith)))
 
   pub front-none : size ≤ a → (size ≡ 128 → ⊥) → (c ≡ false) ⊎ (size ≤ 0) → Front c p n kept None
-  front-none h k (inl e) = let w = window-size in waits c p n kept window window-is (omega arith) (omega arith) e
-  front-none h k (inr z) = let w = window-size in ends c p n kept window window-is (omega arith) (omega arith) (omega arith)
+  front-none h k (inl e) = let w = window-size in let m = at-most in let s = looked .stop in waits c p n kept window window-is (omega arith) (omega arith) e
+  front-none h k (inr z) = let w = window-size in let m = at-most in let s = looked .stop in ends c p n kept window window-is (omega arith) (omega arith) (omega arith)

@@ -13,7 +13,7 @@ use Rattle.std.proofs.shelf.Lists.{drop-more, drop-all}
 use Rattle.std.proofs.shelf.Tests.{both-ways, or-from, ne-eqb, le-leb, lt-leb, lt-ltb, le-ltb, and-from, and-left, and-right}
 use Rattle.mesh_reader.specs.Text.{some-bytes, blank}
 use Rattle.mesh_reader.specs.Numerals.{digit, all-digits, value, magnitude}
-use Rattle.mesh_reader.specs.Scanning.{separates, front, behind, at-word-end, leading}
+use Rattle.mesh_reader.specs.Scanning.{separates, front, behind, at-word-end, Within, leading}
 use Rattle.mesh_reader.proofs.Digits.{digit-from}
 use Rattle.mesh_reader.proofs.Words.{front-on, behind-on, front-end}
 
@@ -114,7 +114,7 @@ some-by-length : (w : List ℕ) (from at : ℕ) → length w + from ≡ at → s
 some-by-length [] from at e = sym (le-ltb from at (omega arith))
 some-by-length (b ∷ w) from at e = sym (lt-ltb from at (omega arith))
 
-module _ (bs : List ℕ) (from at v : ℕ) (inside : at ≤ length bs) (forward : from ≤ at) (e : leading 9 0 (drop from bs) ≡ (v, drop at bs)) where
+module _ (bs : List ℕ) (from at v : ℕ) (within : Within bs from at) (e : leading 9 0 (drop from bs) ≡ (v, drop at bs)) where
   says-whole : at-word-end (drop at bs) ≡ true → Whole 9 0 (drop from bs) v (drop at bs)
   says-whole g =
       subst (λ (p : ℕ × List ℕ). Whole 9 0 (drop from bs) (p .0) (p .1)) e (whole 9 0 (drop from bs) (ap (λ (p : ℕ × List ℕ). at-word-end (p .1)) e ∙ g))
@@ -129,6 +129,8 @@ module _ (bs : List ℕ) (from at v : ℕ) (inside : at ≤ length bs) (forward 
       let b : length (behind separates (drop from bs)) ≡ length (drop at bs) = ap length (says-whole g .left) in
       let c = length-drop from bs in
       let d = length-drop at bs in
+      let f = within .forward in
+      let i = within .inside in
       omega arith
 
   pub magnitude-whole : at-word-end (drop at bs) ≡ true → magnitude (front separates (drop from bs)) ≡ cond (ltb from at) (Some v) None

@@ -1,6 +1,7 @@
 -- The text reader by its fields.
 use mathlib.Core.Path.{_≡_}
 use mathlib.Core.List.{List, _++_}
+use mathlib.Core.Bool.{Bool, true, false}
 use Prim.Native.Nat.{ℕ, _<_}
 use lib.ListN.{length, take}
 use Rattle.std.specs.Holes.{between}
@@ -10,6 +11,7 @@ use Rattle.std.specs.declared.result.Result.{Result}
 use Rattle.std.specs.declared.result.Result.the-variants.{Ok, Err}
 use Rattle.mesh_stream.specs.declared.event.Event.{Event}
 use Rattle.mesh_stream.specs.declared.fault.Refusal.{Refusal}
+use Rattle.mesh_stream.specs.declared.fault.Refusal.the-variants.{InletClosed}
 use Rattle.mesh_stream.specs.declared.stage.Answer.{Answer}
 use Rattle.mesh_stream.specs.Meaning.{Meaning, Port, Same, Lawful}
 use Rattle.mesh_stream.specs.Calls.{SameKind, Nexted}
@@ -55,6 +57,11 @@ pub record SameBut (r s : TextReader) : Type 0 where
   pub line : s .line ≡ r .line
   pub vertex : s .vertex ≡ r .vertex
   pub closed : s .closed ≡ r .closed
+
+-- Refused with number 1 exactly where it is closed.
+abbrev pub OpenOr : Result (Unit {0}) Refusal → Bool → Type 0
+OpenOr (Ok _) is-closed = is-closed ≡ false
+OpenOr (Err e) is-closed = (is-closed ≡ true) × (e ≡ InletClosed)
 
 -- What is kept after feeding.
 abbrev pub kept-fed : List ℕ → List ℕ → Result ℕ Refusal → List ℕ

@@ -21,6 +21,11 @@ use mesh_stream::event::Event;
 use mesh_stream::event::Point;
 use mesh_stream::fault::Cause;
 
+// A line with so many bytes before its line end is at fault.
+const LONG_LINE: usize = 128;
+
+const MOST_LINES: u32 = 1_000_000_000;
+
 // The first word of the line, `at` being behind the blanks before it.
 fn first_word_at(bytes: &[u8], at: usize) -> FirstWord
     requires { ⌜ (at < length (now bytes) → blank (getD (now bytes) at 0) ≡ false) ⌝ }
@@ -184,15 +189,15 @@ pub fn read_line(bytes: &[u8], place: u32, number: u32) -> Scanned<LineContent>
 pub fn in_time(place: u32, content: LineContent) -> LineContent
     ensures { λ r. ⌜ r ≡ in-time place content ⌝ }
 {
-    if place > 1_000_000_000 {
+    if place > MOST_LINES {
         LineContent::Wrong(Cause::TooManyLines)
     } else {
         content
     }
 }
 
-// The line at the front of the bytes kept, unless it is incomplete: what it holds, and how many bytes it takes up. No more than
-// 128 bytes are looked at, since a line that long is at fault.
+// The line at the front of the bytes kept, unless it is incomplete: what it holds, and how many bytes it takes up. No more
+// bytes are looked at than a line may have, since a longer one is at fault.
 pub fn front_line(
     kept: &[u8],
     closed: bool,
@@ -201,7 +206,7 @@ pub fn front_line(
 ) -> Option<Scanned<LineContent>>
     ensures { λ r. ⌜ Front closed place number (now (kept .entry)) r ⌝ }
 {
-    let length = kept.len().min(128);
+    let length = kept.len().min(LONG_LINE);
     let line = read_line(&kept[0..length], place, number);
     if line.at < length {
         return Some(Scanned {
@@ -209,10 +214,10 @@ pub fn front_line(
             at: line.at + 1,
         });
     }
-    if length == 128 {
+    if length == LONG_LINE {
         return Some(Scanned {
             found: LineContent::Wrong(Cause::LineTooLong),
-            at: 128,
+            at: LONG_LINE,
         });
     }
     if closed && length > 0 {

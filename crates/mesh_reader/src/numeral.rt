@@ -2,6 +2,10 @@ ghost use mathlib.Core.Path.{_≡_};
 ghost use Rattle.mesh_reader.specs.Numerals.{coordinate-by, vertex-by};
 use mesh_stream::fault::Cause;
 
+const LARGEST_COORDINATE: u32 = 100_000;
+
+const LARGEST_VERTEX: u32 = 100_000_000;
+
 // A word read as a number: whether it has a minus, and what its 1 to 9 digits say, if that is what it has.
 #[derive(Clone, Copy)]
 pub struct Numeral {
@@ -17,7 +21,7 @@ impl Numeral {
         let Some(size) = self.magnitude else {
             return Err(Cause::NotANumber);
         };
-        if size > 100_000 {
+        if size > LARGEST_COORDINATE {
             return Err(Cause::OutOfRange);
         }
         Ok(if self.minus {
@@ -37,7 +41,7 @@ impl Numeral {
         match self.magnitude {
             None => Err(Cause::NotANumber),
             Some(number) => {
-                if number == 0 || number > 100_000_000 {
+                if number == 0 || number > LARGEST_VERTEX {
                     Err(Cause::OutOfRange)
                 } else {
                     Ok(number)

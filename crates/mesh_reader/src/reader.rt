@@ -5,11 +5,14 @@ ghost use lib.ListN.{length};
 pub mod inlet;
 mod start;
 
+// How many bytes a reader can keep.
+const CAPACITY: usize = 4096;
+
 // The text reader. It keeps the bytes that it took and has not read yet, `bytes[start..end]`; reading a line moves `start`, and
 // only feeding moves bytes.
 #[derive(Drop)]
 pub struct TextReader {
-    bytes: [u8; 4096],
+    bytes: [u8; CAPACITY],
     start: usize,
     end: usize,
     // the number of the next line

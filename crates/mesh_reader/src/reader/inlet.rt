@@ -1,6 +1,7 @@
 ghost use mathlib.Core.Path.{_≡_};
-ghost use Rattle.mesh_reader.specs.Readers.{kept, leaves, reader-means, reader-port, reader-lawful, LineTaken, SameBut, kept-fed};
+ghost use Rattle.mesh_reader.specs.Readers.{kept, leaves, reader-means, reader-port, reader-lawful, LineTaken, SameBut, OpenOr, kept-fed};
 ghost use Rattle.mesh_stream.specs.Calls.{Nexted, Fed, Closed};
+use super::CAPACITY;
 use super::TextReader;
 use crate::content::LineContent;
 use crate::line::front_line;
@@ -55,9 +56,17 @@ impl TextReader {
             }
         }
     }
-}
 
-impl TextReader {
+    // Feeding and closing are refused once the reader is closed.
+    fn check_open(&self) -> Result<(), Refusal>
+        ensures { λ r. ⌜ OpenOr r (now (self .entry) .closed) ⌝ }
+    {
+        if self.closed {
+            return Err(Refusal::InletClosed);
+        }
+        Ok(())
+    }
+
     // Moves the bytes kept to the front of the array, so that all of the room lies behind them.
     fn move_to_front(&mut self)
         ensures moved { λ _. ⌜ kept (now (self .exit)) ≡ kept (now (self .entry)) ⌝ }
@@ -100,7 +109,7 @@ pub impl Inlet for TextReader as TextReaderInlet {
         if self.closed {
             0
         } else {
-            4096 - (self.end - self.start)
+            CAPACITY - (self.end - self.start)
         }
     }
 
@@ -108,11 +117,9 @@ pub impl Inlet for TextReader as TextReaderInlet {
         ensures rule { λ r. ⌜ Fed (reader-port (now (self .entry))) (reader-means (now (self .entry))) (now (piece .entry)) r (reader-port (now (self .exit))) (reader-means (now (self .exit))) ⌝ }
         ensures kept { λ r. ⌜ kept (now (self .exit)) ≡ kept-fed (kept (now (self .entry))) (now (piece .entry)) r ⌝ }
     {
-        if self.closed {
-            return Err(Refusal::InletClosed);
-        }
+        self.check_open()?;
         self.move_to_front();
-        let taken = piece.len().min(4096 - self.end);
+        let taken = piece.len().min(CAPACITY - self.end);
         let end = self.end + taken;
         self.bytes[self.end..end].copy_from_slice(&piece[0..taken]);
         self.end = end;
@@ -123,9 +130,7 @@ pub impl Inlet for TextReader as TextReaderInlet {
         ensures rule { λ r. ⌜ Closed (reader-port (now (self .entry))) (reader-means (now (self .entry))) r (reader-port (now (self .exit))) (reader-means (now (self .exit))) ⌝ }
         ensures kept { λ _. ⌜ kept (now (self .exit)) ≡ kept (now (self .entry)) ⌝ }
     {
-        if self.closed {
-            return Err(Refusal::InletClosed);
-        }
+        self.check_open()?;
         self.closed = true;
         Ok(())
     }

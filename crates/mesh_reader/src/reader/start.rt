@@ -4,6 +4,7 @@ ghost use Prim.Native.Nat.{ℕ};
 ghost use Rattle.mesh_stream.specs.Meaning.{Mark, open-for};
 ghost use Rattle.mesh_reader.specs.Reading.{reading};
 ghost use Rattle.mesh_reader.specs.contracts.reader.inlet.TextReaderStage.the-impl.{ghosts as reads};
+use super::CAPACITY;
 use super::TextReader;
 
 impl TextReader {
@@ -13,7 +14,7 @@ impl TextReader {
         ensures port { λ r. ⌜ reads .port r ≡ open-for 4096 ⌝ }
     {
         TextReader {
-            bytes: [0; 4096],
+            bytes: [0; CAPACITY],
             start: 0,
             end: 0,
             line: 1,

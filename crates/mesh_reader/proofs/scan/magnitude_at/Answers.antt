@@ -17,8 +17,8 @@ returns-then-not-at-word-end c =
     let v = c .leading-digits-digits .result .found in
     record {
       within = within-on bytes (c .args .from) at (c .skip-word .result) (d .within) (c .skip-word .ensures .within);
-      after = c .skip-word .ensures .after ∙ word-goes-on bytes (c .args .from) at v (d .within .inside) (d .within .forward) (d .digits) e;
-      value = sym (magnitude-partial bytes (c .args .from) at v (d .within .inside) (d .within .forward) (d .digits) e);
+      after = c .skip-word .ensures .after ∙ word-goes-on bytes (c .args .from) at v (d .within) (d .digits) e;
+      value = sym (magnitude-partial bytes (c .args .from) at v (d .within) (d .digits) e);
     }
 
 pub returns-then-from-digits : need.returns-then-from-digits
@@ -30,8 +30,8 @@ returns-then-from-digits c =
     let v = c .leading-digits-digits .result .found in
     record {
       within = d .within;
-      after = word-passed bytes (c .args .from) at v (d .within .inside) (d .within .forward) (d .digits) e;
-      value = sym (magnitude-whole bytes (c .args .from) at v (d .within .inside) (d .within .forward) (d .digits) e ∙ ap (λ t. cond t (Some v) None) (lt-ltb (c .args .from) at (c .if-from-digits .taken)));
+      after = word-passed bytes (c .args .from) at v (d .within) (d .digits) e;
+      value = sym (magnitude-whole bytes (c .args .from) at v (d .within) (d .digits) e ∙ ap (λ t. cond t (Some v) None) (lt-ltb (c .args .from) at (c .if-from-digits .taken)));
     }
 
 pub returns-else-from-digits : need.returns-else-from-digits
@@ -43,6 +43,6 @@ returns-else-from-digits c =
     let v = c .leading-digits-digits .result .found in
     record {
       within = d .within;
-      after = word-passed bytes (c .args .from) at v (d .within .inside) (d .within .forward) (d .digits) e;
-      value = sym (magnitude-whole bytes (c .args .from) at v (d .within .inside) (d .within .forward) (d .digits) e ∙ ap (λ t. cond t (Some v) None) (le-ltb (c .args .from) at (c .if-from-digits .left)));
+      after = word-passed bytes (c .args .from) at v (d .within) (d .digits) e;
+      value = sym (magnitude-whole bytes (c .args .from) at v (d .within) (d .digits) e ∙ ap (λ t. cond t (Some v) None) (le-ltb (c .args .from) at (c .if-from-digits .left)));
     }

@@ -16,7 +16,7 @@ returns c =
     let copied = c .copy-from-slice .ensures .after in
     let grown = more r m piece ys k (e .moved) (e .start) (c .min-taken .ensures) copied in
     record {
-      rule = fed r m piece (take (m .end + k - m .start) (drop (m .start) (putMid (m .end) (m .end + k - m .end) (m .bytes) ys))) k (c .if-self .left) (e .same) grown (count r m piece ys k (e .moved) (e .start) (c .min-taken .ensures) copied);
+      rule = fed r m piece (take (m .end + k - m .start) (drop (m .start) (putMid (m .end) (m .end + k - m .end) (m .bytes) ys))) k (c .in-Continue-check-open .ensures tt) (e .same) grown (count r m piece ys k (e .moved) (e .start) (c .min-taken .ensures) copied);
       kept = grown;
     }
 
