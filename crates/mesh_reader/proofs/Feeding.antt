@@ -63,9 +63,9 @@ behind-start m ys k e l =
     (behind-kept (m .bytes) ys (m .end) k (let s = m .size in let i = m .inside in omega arith) l)
 
 -- m is the reader r with its bytes moved to the front, behind which ys was written: as much of the piece as there is room for.
-module _ (r m : TextReader) (piece ys : List ℕ) (k : ℕ) (moved : kept m ≡ kept r) (start : m .start ≡ 0) (least : k ≡ min (length piece) (4096 - m .end)) (copied : ys ≡ take (k - 0) piece) where
+module _ (r m : TextReader) (piece ys : List ℕ) (k : ℕ) (moved : kept m ≡ kept r) (start : m .start ≡ 0) (least : k ≡ min (length piece) (4096 - length (kept m))) (copied : ys ≡ take (k - 0) piece) where
   pub count : k ≡ min (length piece) (4096 - length (kept r))
-  count = let a = length-kept m in let b = ap length moved in omega arith
+  count = least ∙ ap (λ (xs : List ℕ). min (length piece) (4096 - length xs)) moved
 
   copied-whole : ys ≡ take k piece
   copied-whole = copied ∙ ap (λ (n : ℕ). take n piece) (let e : k - 0 ≡ k = omega arith in e)
@@ -79,7 +79,7 @@ module _ (r m : TextReader) (piece ys : List ℕ) (k : ℕ) (moved : kept m ≡ 
 
   -- The array keeps its size, and what is kept lies within it.
   pub still-inside : m .end + k ≤ 4096
-  still-inside = let i = m .inside in omega arith
+  still-inside = let a = length-kept m in let i = m .inside in omega arith
 
   pub same-size : length (putMid (m .end) (m .end + k - m .end) (m .bytes) ys) ≡ 4096
   same-size =

@@ -9,7 +9,7 @@ use lib.Dec.{leb, ltb}
 use lib.ListN.{length, take, drop, length-append}
 use Rattle.std.specs.declared.option.Option.the-variants.{Some, None}
 use Rattle.std.proofs.shelf.Lists.{length-take, take-all, drop-all}
-use Rattle.std.proofs.shelf.Tests.{eqb-true, both-ways, le-leb, lt-leb, cases-lt}
+use Rattle.std.proofs.shelf.Tests.{eqb-true, both-ways, leb-true, leb-false, le-leb, lt-leb, cases-lt}
 use Rattle.mesh_stream.specs.declared.event.Event.{Event}
 use Rattle.mesh_stream.specs.declared.fault.Cause.the-variants.{LineTooLong, TooManyLines}
 use Rattle.mesh_stream.specs.declared.stage.Standing.the-variants.{Waiting, Ended}
@@ -306,18 +306,18 @@ module _ (c : Bool) (p n : ℕ) (kept : List ℕ) (size : ℕ) (f : LineContent)
       (subst (λ (k : ℕ). Front c p n kept (Some (record { found = by-words p n (words (front line-end window)); at = k + 1 }))) (sym s)
       (takes-line c p n kept window window-is (omega arith) (omega arith)))
 
-  pub front-long : size ≤ a → size ≡ 128 → Front c p n kept (Some (record { found = Wrong LineTooLong; at = 128 }))
-  front-long h k = let w = window-size in let s = looked .stop in too-long c p n kept window window-is (omega arith) (omega arith)
+  pub front-long : size ≤ a → leb 128 size ≡ true → Front c p n kept (Some (record { found = Wrong LineTooLong; at = 128 }))
+  front-long h k = let w = window-size in let m = at-most in let l = leb-true 128 size k in let s = looked .stop in too-long c p n kept window window-is (omega arith) (omega arith)
 
-  pub front-last : size ≤ a → (size ≡ 128 → ⊥) → c ≡ true → 0 < size → Front c p n kept (Some (record { found = f; at = a }))
+  pub front-last : size ≤ a → leb 128 size ≡ false → c ≡ true → 0 < size → Front c p n kept (Some (record { found = f; at = a }))
   front-last h k e z =
       let w = window-size in
-      let m = at-most in
+      let l = leb-false 128 size k in
       let s = looked .stop in
       subst (λ (g : LineContent). Front c p n kept (Some (record { found = g; at = a }))) (sym (looked .content))
       (subst (λ (j : ℕ). Front c p n kept (Some (record { found = by-words p n (words (front line-end window)); at = j }))) (sym s)
       (last-line c p n kept window window-is (omega arith) (omega arith) e (omega arith)))
 
-  pub front-none : size ≤ a → (size ≡ 128 → ⊥) → (c ≡ false) ⊎ (size ≤ 0) → Front c p n kept None
-  front-none h k (inl e) = let w = window-size in let m = at-most in let s = looked .stop in waits c p n kept window window-is (omega arith) (omega arith) e
-  front-none h k (inr z) = let w = window-size in let m = at-most in let s = looked .stop in ends c p n kept window window-is (omega arith) (omega arith) (omega arith)
+  pub front-none : size ≤ a → leb 128 size ≡ false → (c ≡ false) ⊎ (size ≤ 0) → Front c p n kept None
+  front-none h k (inl e) = let w = window-size in let l = leb-false 128 size k in let s = looked .stop in waits c p n kept window window-is (omega arith) (omega arith) e
+  front-none h k (inr z) = let w = window-size in let l = leb-false 128 size k in let s = looked .stop in ends c p n kept window window-is (omega arith) (omega arith) (omega arith)

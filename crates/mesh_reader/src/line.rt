@@ -1,6 +1,7 @@
 ghost use mathlib.Core.Path.{_≡_};
 ghost use mathlib.Core.Bool.{false};
 ghost use Prim.Native.Nat.{_≤_, _<_};
+ghost use lib.Dec.{leb};
 ghost use lib.ListN.{length, getD};
 ghost use Rattle.mesh_stream.specs.declared.event.Event.the-variants.{Triangle as Three, Finalization as Final};
 ghost use Rattle.mesh_reader.specs.Text.{blank, words, line-end};
@@ -196,6 +197,12 @@ pub fn in_time(place: u32, content: LineContent) -> LineContent
     }
 }
 
+fn is_long(length: usize) -> bool
+    ensures { λ r. ⌜ r ≡ leb 128 length ⌝ }
+{
+    length >= LONG_LINE
+}
+
 // The line at the front of the bytes kept, unless it is incomplete: what it holds, and how many bytes it takes up. No more
 // bytes are looked at than a line may have, since a longer one is at fault.
 pub fn front_line(
@@ -214,7 +221,7 @@ pub fn front_line(
             at: line.at + 1,
         });
     }
-    if length == LONG_LINE {
+    if is_long(length) {
         return Some(Scanned {
             found: LineContent::Wrong(Cause::LineTooLong),
             at: LONG_LINE,

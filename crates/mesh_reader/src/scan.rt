@@ -3,6 +3,7 @@
 ghost use mathlib.Core.Path.{_≡_};
 ghost use mathlib.Core.Bool.{false};
 ghost use Prim.Native.Nat.{_≤_, _<_};
+ghost use lib.Dec.{eqb};
 ghost use lib.ListN.{length, getD, drop};
 ghost use Rattle.mesh_reader.specs.Text.{blank};
 ghost use Rattle.mesh_reader.specs.Numerals.{digit, magnitude, numeral};
@@ -123,6 +124,12 @@ fn magnitude_at(bytes: &[u8], from: usize) -> Scanned<Option<u32>>
     }
 }
 
+fn is_minus(byte: u8) -> bool
+    ensures { λ r. ⌜ r ≡ eqb byte 45 ⌝ }
+{
+    byte == b'-'
+}
+
 // The word that begins here, as a numeral.
 fn numeral_at(bytes: &[u8], from: usize) -> Scanned<Numeral>
     requires { ⌜ at-word-end (drop from (now bytes)) ≡ false ⌝ ∗ ⌜ from < length (now bytes) ⌝ }
@@ -130,7 +137,7 @@ fn numeral_at(bytes: &[u8], from: usize) -> Scanned<Numeral>
     ensures after { λ r. ⌜ drop (r .at) (now (bytes .entry)) ≡ behind separates (drop from (now (bytes .entry))) ⌝ }
     ensures value { λ r. ⌜ r .found ≡ numeral (front separates (drop from (now (bytes .entry)))) ⌝ }
 {
-    let minus = bytes[from] == b'-';
+    let minus = is_minus(bytes[from]);
     let size = magnitude_at(bytes, if minus { from + 1 } else { from });
     Scanned {
         found: Numeral {

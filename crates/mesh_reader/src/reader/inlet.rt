@@ -1,4 +1,6 @@
 ghost use mathlib.Core.Path.{_≡_};
+ghost use Prim.Native.Nat.{_-_, _≤_, min};
+ghost use lib.ListN.{length};
 ghost use Rattle.mesh_reader.specs.Readers.{kept, leaves, reader-means, reader-port, reader-lawful, LineTaken, SameBut, OpenOr, kept-fed};
 ghost use Rattle.mesh_stream.specs.Calls.{Nexted, Fed, Closed};
 use super::CAPACITY;
@@ -67,6 +69,27 @@ impl TextReader {
         Ok(())
     }
 
+    fn kept_len(&self) -> usize
+        ensures len { λ r. ⌜ r ≡ length (kept (now (self .entry))) ⌝ }
+        ensures bound { λ r. ⌜ r ≤ 4096 ⌝ }
+    {
+        self.end - self.start
+    }
+
+    // How many bytes more it can keep.
+    fn free(&self) -> usize
+        ensures { λ r. ⌜ r ≡ 4096 - length (kept (now (self .entry))) ⌝ }
+    {
+        CAPACITY - self.kept_len()
+    }
+
+    // How much of a piece of this length it can keep.
+    fn share(&self, piece_len: usize) -> usize
+        ensures { λ r. ⌜ r ≡ min «piece_len» (4096 - length (kept (now (self .entry)))) ⌝ }
+    {
+        piece_len.min(self.free())
+    }
+
     // Moves the bytes kept to the front of the array, so that all of the room lies behind them.
     fn move_to_front(&mut self)
         ensures moved { λ _. ⌜ kept (now (self .exit)) ≡ kept (now (self .entry)) ⌝ }
@@ -106,11 +129,7 @@ pub impl Stage for TextReader as TextReaderStage {
 
 pub impl Inlet for TextReader as TextReaderInlet {
     fn room(&self) -> usize {
-        if self.closed {
-            0
-        } else {
-            CAPACITY - (self.end - self.start)
-        }
+        if self.closed { 0 } else { self.free() }
     }
 
     fn feed(&mut self, piece: &[u8]) -> Result<usize, Refusal>
@@ -119,7 +138,7 @@ pub impl Inlet for TextReader as TextReaderInlet {
     {
         self.check_open()?;
         self.move_to_front();
-        let taken = piece.len().min(CAPACITY - self.end);
+        let taken = self.share(piece.len());
         let end = self.end + taken;
         self.bytes[self.end..end].copy_from_slice(&piece[0..taken]);
         self.end = end;

@@ -1,5 +1,5 @@
-use Rattle.std.proofs.shelf.Tests.{eq-eqb, ne-eqb}
-use lib.ListN.{getD}
+use mathlib.Core.Path.{sym, ap, _∙_}
+use Rattle.mesh_reader.specs.declared.numeral.Numeral.{Numeral}
 use Rattle.mesh_reader.proofs.Minus.{Sized, Spelled, with-minus, without}
 use Rattle.mesh_reader.proofs.scan.numeral_at.Needs as need
 use Rattle.mesh_reader.proofs.scan.numeral_at.Needs.{then-minus, else-minus}
@@ -15,9 +15,9 @@ spelled c =
     let to = c .magnitude-at-size .result .at in
     let m = c .magnitude-at-size .result .found in
     elim (c .if-minus .came) [
-      | then-minus w ↦ with-minus bytes from (c .pre .1) (c .pre .0) at to m (w .magnitude-at-is) (eq-eqb (getD bytes from 0) 45 (w .if-minus .taken)) (sized c)
-      | else-minus w ↦ without bytes from (c .pre .1) (c .pre .0) at to m (w .magnitude-at-is) (ne-eqb (getD bytes from 0) 45 (w .if-minus .left)) (sized c)
+      | then-minus w ↦ with-minus bytes from (c .pre .1) (c .pre .0) at to m (w .magnitude-at-is) (sym (c .is-minus-minus .ensures) ∙ w .if-minus .taken) (sized c)
+      | else-minus w ↦ without bytes from (c .pre .1) (c .pre .0) at to m (w .magnitude-at-is) (sym (c .is-minus-minus .ensures) ∙ w .if-minus .left) (sized c)
     ]
 
 pub returns : need.returns
-returns c = let s = spelled c in record { within = s .within; after = s .after; value = s .value }
+returns c = let s = spelled c in record { within = s .within; after = s .after; value = ap (λ b. record { minus = b; magnitude = c .magnitude-at-size .result .found }) (c .is-minus-minus .ensures) ∙ s .value }

@@ -10,13 +10,13 @@ returns c =
     let r = c .args .self .now in
     let m = c .move-to-front .last .self in
     let e = c .move-to-front .ensures in
-    let k = c .min-taken .result in
+    let k = c .share-taken .result in
     let piece = c .args .piece .now in
     let ys = c .copy-from-slice .last .self in
     let copied = c .copy-from-slice .ensures .after in
-    let grown = more r m piece ys k (e .moved) (e .start) (c .min-taken .ensures) copied in
+    let grown = more r m piece ys k (e .moved) (e .start) (c .share-taken .ensures) copied in
     record {
-      rule = fed r m piece (take (m .end + k - m .start) (drop (m .start) (putMid (m .end) (m .end + k - m .end) (m .bytes) ys))) k (c .in-Continue-check-open .ensures tt) (e .same) grown (count r m piece ys k (e .moved) (e .start) (c .min-taken .ensures) copied);
+      rule = fed r m piece (take (m .end + k - m .start) (drop (m .start) (putMid (m .end) (m .end + k - m .end) (m .bytes) ys))) k (c .in-Continue-check-open .ensures tt) (e .same) grown (count r m piece ys k (e .moved) (e .start) (c .share-taken .ensures) copied);
       kept = grown;
     }
 
@@ -25,10 +25,10 @@ ghost-self c =
     let r = c .args .self .now in
     let m = c .move-to-front .last .self in
     let e = c .move-to-front .ensures in
-    let k = c .min-taken .result in
+    let k = c .share-taken .result in
     let piece = c .args .piece .now in
     let ys = c .copy-from-slice .last .self in
     let copied = c .copy-from-slice .ensures .after in
-    let size = same-size r m piece ys k (e .moved) (e .start) (c .min-taken .ensures) copied in
-    let inside = still-inside r m piece ys k (e .moved) (e .start) (c .min-taken .ensures) copied in
+    let size = same-size r m piece ys k (e .moved) (e .start) (c .share-taken .ensures) copied in
+    let inside = still-inside r m piece ys k (e .moved) (e .start) (c .share-taken .ensures) copied in
     (size, ((let o = m .ordered in omega arith), (inside, (m .lines, (m .vertices, tt)))))
