@@ -3,7 +3,7 @@ use mesh_stream::fault::Cause;
 
 // The first word of a line, which says what kind of line it is.
 #[derive(Clone, Copy)]
-pub enum FirstWord {
+pub(crate) enum FirstWord {
     // there is none
     Missing,
     // starts with #
@@ -14,7 +14,7 @@ pub enum FirstWord {
 
 // What a line holds.
 #[derive(Clone, Copy)]
-pub enum LineContent {
+pub(crate) enum LineContent {
     Nothing,
     Gives(Event),
     Wrong(Cause),

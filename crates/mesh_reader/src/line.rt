@@ -164,7 +164,7 @@ fn letter_line(
 }
 
 // What the line at the front of the bytes holds, and where it ends: at its line end, or behind the last byte where it has none.
-pub fn read_line(bytes: &[u8], place: u32, number: u32) -> Scanned<LineContent>
+pub(crate) fn read_line(bytes: &[u8], place: u32, number: u32) -> Scanned<LineContent>
     ensures content { λ r. ⌜ r .found ≡ by-words place number (words (front line-end (now (bytes .entry)))) ⌝ }
     ensures stop { λ r. ⌜ r .at ≡ length (front line-end (now (bytes .entry))) ⌝ }
 {
@@ -187,7 +187,7 @@ pub fn read_line(bytes: &[u8], place: u32, number: u32) -> Scanned<LineContent>
 }
 
 // A text has at most 1,000,000,000 lines: what the next one holds is not looked at.
-pub fn in_time(place: u32, content: LineContent) -> LineContent
+pub(crate) fn in_time(place: u32, content: LineContent) -> LineContent
     ensures { λ r. ⌜ r ≡ in-time place content ⌝ }
 {
     if place > MOST_LINES {
@@ -205,7 +205,7 @@ fn is_long(length: usize) -> bool
 
 // The line at the front of the bytes kept, unless it is incomplete: what it holds, and how many bytes it takes up. No more
 // bytes are looked at than a line may have, since a longer one is at fault.
-pub fn front_line(
+pub(crate) fn front_line(
     kept: &[u8],
     closed: bool,
     place: u32,

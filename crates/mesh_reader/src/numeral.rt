@@ -8,14 +8,14 @@ const LARGEST_VERTEX: u32 = 100_000_000;
 
 // A word read as a number: whether it has a minus, and what its 1 to 9 digits say, if that is what it has.
 #[derive(Clone, Copy)]
-pub struct Numeral {
+pub(crate) struct Numeral {
     pub minus: bool,
     pub magnitude: Option<u32>,
 }
 
 impl Numeral {
     // As a coordinate: from -100,000 to 100,000.
-    pub fn coordinate(self) -> Result<i32, Cause>
+    pub(crate) fn coordinate(self) -> Result<i32, Cause>
         ensures { λ r. ⌜ r ≡ coordinate-by (self .minus) (self .magnitude) ⌝ }
     {
         let Some(size) = self.magnitude else {
@@ -32,7 +32,7 @@ impl Numeral {
     }
 
     // As a vertex number: without sign, from 1 to 100,000,000.
-    pub fn vertex_number(self) -> Result<u32, Cause>
+    pub(crate) fn vertex_number(self) -> Result<u32, Cause>
         ensures { λ r. ⌜ r ≡ vertex-by (self .minus) (self .magnitude) ⌝ }
     {
         if self.minus {

@@ -12,7 +12,7 @@ use super::numeral::Numeral;
 
 // What was found, and how far the line is read then.
 #[derive(Clone, Copy)]
-pub struct Scanned<T> {
+pub(crate) struct Scanned<T> {
     pub found: T,
     pub at: usize,
 }
@@ -30,7 +30,7 @@ fn is_separator(byte: u8) -> bool
 }
 
 // Whether no word goes on here.
-pub fn at_word_end(bytes: &[u8], at: usize) -> bool
+pub(crate) fn at_word_end(bytes: &[u8], at: usize) -> bool
     ensures word { λ r. ⌜ r ≡ at-word-end (drop at (now (bytes .entry))) ⌝ }
     ensures inside { λ r. ⌜ (r ≡ false → at < length (now (bytes .entry))) ⌝ }
 {
@@ -38,7 +38,7 @@ pub fn at_word_end(bytes: &[u8], at: usize) -> bool
 }
 
 // Past the blanks.
-pub fn skip_blanks(bytes: &[u8], from: usize) -> usize
+pub(crate) fn skip_blanks(bytes: &[u8], from: usize) -> usize
     requires { ⌜ from ≤ length (now bytes) ⌝ }
     ensures within { λ r. ⌜ Within (now (bytes .entry)) from r ⌝ }
     ensures words { λ r. ⌜ rest-words (now (bytes .entry)) r ≡ rest-words (now (bytes .entry)) from ⌝ }
@@ -65,7 +65,7 @@ fn skip_word(bytes: &[u8], from: usize) -> usize
 }
 
 // Where the line ends: at its line end, or behind the last byte where it has none.
-pub fn line_stop(bytes: &[u8], from: usize) -> usize
+pub(crate) fn line_stop(bytes: &[u8], from: usize) -> usize
     requires { ⌜ from ≤ length (now bytes) ⌝ }
     ensures { λ r. ⌜ r ≡ stop-of-line (now (bytes .entry)) from ⌝ }
 {
@@ -149,7 +149,7 @@ fn numeral_at(bytes: &[u8], from: usize) -> Scanned<Numeral>
 }
 
 // The next word of the line as a numeral, if there is one.
-pub fn next_numeral(bytes: &[u8], from: usize) -> Scanned<Option<Numeral>>
+pub(crate) fn next_numeral(bytes: &[u8], from: usize) -> Scanned<Option<Numeral>>
     requires { ⌜ from ≤ length (now bytes) ⌝ }
     ensures within { λ r. ⌜ Within (now (bytes .entry)) from (r .at) ⌝ }
     ensures next { λ r. ⌜ Next (now (bytes .entry)) from (r .found) (r .at) ⌝ }
