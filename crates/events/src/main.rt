@@ -1,7 +1,10 @@
 // Reads a mesh text from standard input and prints each event as it comes, and last how the text stood.
+ghost use mathlib.Core.Path.{_≡_};
+ghost use mathlib.Core.List.{[]};
 ghost use Prim.Native.Nat.{_≤_};
 ghost use lib.ListN.{length};
 ghost use Rattle.std.specs.Vec.{made};
+ghost use Rattle.mesh_stream.specs.Meaning.{unclosed, outcome};
 use mesh_reader::reader::TextReader;
 use mesh_reader::reader::inlet::TextReaderInlet;
 use mesh_reader::reader::inlet::TextReaderStage;
@@ -25,7 +28,9 @@ use std::io::Write;
 fn list_events<S: Stage<Item = Event>, W: Write>(
     stage: &mut S,
     listing: &mut Listing<W>,
-) -> io::Result<Standing> {
+) -> io::Result<Standing>
+    ensures { λ r. ⌜ made r (λ s. S·Stage .meaning (now (stage .exit)) [] unclosed ≡ outcome [] s) ⌝ }
+{
     loop {
         match stage.next() {
             Answer::Item(event) => listing.take(event)?,
@@ -64,7 +69,7 @@ impl<W: Write> Listing<W> {
 
 // Reads into the front of the piece, at most so many bytes.
 fn read_piece<R: Read>(input: &mut R, piece: &mut [u8], most: usize) -> io::Result<usize>
-    ensures { λ r. ⌜ made r (λ n. n ≤ length (now (piece .entry))) ⌝ }
+    ensures { λ r. ⌜ made r (λ n. (n ≤ length (now (piece .entry))) × (n ≤ most)) ⌝ }
 {
     let most = most.min(piece.len());
     input.read(&mut piece[0..most])

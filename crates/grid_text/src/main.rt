@@ -1,4 +1,8 @@
 // Writes a grid as a mesh text: grid_text COLUMNS ROWS STEP.
+ghost use mathlib.Core.Path.{_≡_};
+ghost use mathlib.Core.List.{[]};
+ghost use Rattle.std.specs.Vec.{made};
+ghost use Rattle.mesh_stream.specs.Meaning.{unclosed};
 use mesh_bottoms::grid::Grid;
 use mesh_bottoms::grid::stage::GridStage;
 use mesh_stream::event::Event;
@@ -24,7 +28,10 @@ fn write_event<W: Write>(out: &mut W, event: Event) -> Result<(), AnyError> {
     Ok(())
 }
 
-fn write_all<S: Stage<Item = Event>, W: Write>(stage: &mut S, out: &mut W) -> Result<(), AnyError> {
+// Writes all that the stage has.
+fn write_all<S: Stage<Item = Event>, W: Write>(stage: &mut S, out: &mut W) -> Result<(), AnyError>
+    ensures { λ r. ⌜ made r (λ _. S·Stage .meaning (now (stage .exit)) [] unclosed .items ≡ []) ⌝ }
+{
     while let Answer::Item(event) = stage.next() {
         write_event(out, event)?;
     }

@@ -8,6 +8,7 @@ use Rattle.std.specs.declared.result.Result.the-variants.{Ok, Err}
 use Rattle.mesh_stream.specs.declared.event.Event.{Event}
 use Rattle.mesh_stream.specs.declared.fault.Refusal.{Refusal}
 use Rattle.mesh_stream.specs.declared.fault.Refusal.the-variants.{SettingNotAllowed}
+use Rattle.mesh_stream.specs.Numbers.{refusal-number}
 use Rattle.mesh_stream.specs.Live.{width}
 use Rattle.mesh_stream.specs.Meaning.{Mark, Meaning, Port, textless}
 use Rattle.mesh_bottoms.specs.declared.grid.Grid.{Grid}
@@ -24,6 +25,7 @@ module _ (meaning : Grid → Meaning Event) (port : Grid → Port) (w h s : ℕ)
   pub record NotAllowed (e : Refusal) : Type 0 where
     pub not-allowed : grid-allowed w h s ≡ false
     pub why : e ≡ SettingNotAllowed
+    pub number : refusal-number e ≡ 15
 
   abbrev pub Made : Result Grid Refusal → Type 0
   Made (Ok g) = Gridded g

@@ -10,6 +10,7 @@ use Rattle.mesh_stream.specs.declared.fault.Refusal.the-variants.{InletClosed}
 use Rattle.mesh_stream.specs.declared.stage.Standing.{Standing}
 use Rattle.mesh_stream.specs.declared.stage.Answer.{Answer}
 use Rattle.mesh_stream.specs.declared.stage.Answer.the-variants.{Item, Idle}
+use Rattle.mesh_stream.specs.Numbers.{refusal-number}
 use Rattle.mesh_stream.specs.Meaning.{Mark, unclosed, closed, Outcome, outcome, prepend, Meaning, Port, textless, open-for, shut, room, Open, IsWaiting, Same}
 
 -- Only close turns an open port into a closed one, and nothing opens it again; the room may change.
@@ -44,6 +45,7 @@ module _ {I : Type 0} (p : Port) (G : Meaning I) where
   -- Refused for being closed: nothing changed.
   pub record Refused (e : Refusal) (q : Port) (H : Meaning I) : Type 0 where
     pub why : e ≡ InletClosed
+    pub number : refusal-number e ≡ 1
     pub was-shut : p ≡ shut
     pub same : Same G H
     pub port-same : q ≡ p
