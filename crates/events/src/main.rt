@@ -1,4 +1,6 @@
 // Reads a mesh text from standard input and prints each event as it comes, and last how the text stood.
+#![tactic(auto)]
+
 ghost use Rattle.std.specs.Prelude.{◌≡◌, ◌≤◌, [], length, IfOk};
 ghost use Rattle.mesh_stream.specs.Meaning.{unclosed, outcome};
 

@@ -1,4 +1,6 @@
 // Writes a grid as a mesh text: grid_text COLUMNS ROWS STEP.
+#![tactic(auto)]
+
 ghost use Rattle.std.specs.Prelude.{◌≡◌, [], OnOk};
 ghost use Rattle.mesh_stream.specs.Meaning.{unclosed};
 

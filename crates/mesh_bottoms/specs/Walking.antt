@@ -61,14 +61,14 @@ module _ (w h s r c : ℕ) where
   from_part part = part_event w s r c part ∷ after_part part
 
   -- A part that comes next after another, if one does.
-  pub record Goes_on (part next : Part) : Type 0 where
+  pub record GoesOn (part next : Part) : Type 0 where
     pub left : after_part part ≡ from_part next
     pub later : turn part < turn next
     pub row_inner : 1 ≤ r
     pub column_inner : 1 ≤ c
 
   abbrev pub Follows : Part → Option Part → Type 0
-  Follows part (Some next) = Goes_on part next
+  Follows part (Some next) = GoesOn part next
   Follows part None = after_part part ≡ []
 
 module _ (w h s : ℕ) where

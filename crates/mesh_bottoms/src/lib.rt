@@ -1,4 +1,6 @@
 // The bottoms that take no text: the list stage and the grid.
+#![tactic(auto)]
+
 pub mod grid;
 pub mod list;
 #[cfg(test)]

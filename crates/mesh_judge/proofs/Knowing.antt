@@ -10,18 +10,18 @@ use Rattle.mesh_stream.specs.declared.fault.LayerName.{LayerName}
 use Rattle.mesh_stream.specs.declared.stage.Standing.{Standing}
 use Rattle.mesh_stream.specs.declared.stage.Standing.TheVariants.{Waiting, Ended, Faulty}
 use Rattle.mesh_stream.specs.Lists.{has, above_all}
-use Rattle.mesh_stream.specs.Events.{introduced, finalized, triangles, point, birthplace}
+use Rattle.mesh_stream.specs.Events.{introduced, finalized, point, birthplace}
 use Rattle.mesh_stream.specs.Live.{live, is_live}
 use Rattle.mesh_stream.specs.Ranges.{in_space, vertex_number}
 use Rattle.mesh_stream.proofs.Having.{kept_yes, kept_no, has-++, has_self, has_kept, has_kept_passes, not_has_nil, above_not_has}
 use Rattle.mesh_stream.proofs.Views.{introduced_v, introduced_t, introduced_f, triangles_v, triangles_t, triangles_f}
 use Rattle.mesh_stream.proofs.Distinct.{Distinct, distinct_kept, not_true_false, eqb_comm}
 use Rattle.mesh_judge.specs.declared.live.Live.{Live}
-use Rattle.mesh_judge.specs.Accepting.{Rules, unless, refusal, Accepted, AcceptedAfter, fault, lowest, end_with, stands_over}
-use Rattle.mesh_judge.specs.Windows.{Window, fresh, put, there, refuses, enters, counted, leaves, or_next, first, end_by, ending, Origin, origin, origin_by, origin_in, largest, Knows}
+use Rattle.mesh_judge.specs.Accepting.{Rules, unless, refusal, AcceptedAfter, fault, lowest, end_with, stands_over}
+use Rattle.mesh_judge.specs.Windows.{Window, fresh, there, refuses, enters, counted, leaves, or_next, first, end_by, ending, Origin, origin, origin_by, origin_in, largest, Knows}
 use Rattle.mesh_judge.proofs.Refusing.{VertexOk, vertex_ok, final_ok, some_not_none}
 use Rattle.mesh_judge.proofs.Living.{live_introduced, live_vertex, live_triangle, live_final}
-use Rattle.mesh_judge.proofs.Sounding.{Sound, sound, new_not_final}
+use Rattle.mesh_judge.proofs.Sounding.{sound, new_not_final}
 
 -- Judging
 

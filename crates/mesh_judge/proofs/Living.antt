@@ -1,14 +1,13 @@
 -- Live vertices after one event more.
-use Rattle.std.proofs.Common.{◌≡◌, ℕ, Bool, true, false, cond, not, ◌&&◌, ◌||◌, eqb, List, [], ◌∷◌, ◌++◌, filter, sym, refl, ap, ◌∙◌, subst, append-nil}
+use Rattle.std.proofs.Common.{◌≡◌, ℕ, Bool, true, false, cond, not, ◌&&◌, ◌||◌, eqb, List, [], ◌∷◌, ◌++◌, filter, refl, ap, ◌∙◌, append-nil}
 use Rattle.std.proofs.lemmas.List.Elements.{filter-append}
-use Rattle.std.proofs.lemmas.Bool.{not-true}
 use Rattle.mesh_stream.specs.declared.event.Point.{Point}
 use Rattle.mesh_stream.specs.declared.event.Event.{Event}
 use Rattle.mesh_stream.specs.declared.event.Event.TheVariants.{Vertex, Triangle, Finalization}
 use Rattle.mesh_stream.specs.Lists.{has}
 use Rattle.mesh_stream.specs.Events.{introduced, finalized}
 use Rattle.mesh_stream.specs.Live.{live, is_live}
-use Rattle.mesh_stream.proofs.Having.{kept_yes, kept_no, has_kept_passes}
+use Rattle.mesh_stream.proofs.Having.{kept_yes, kept_no}
 use Rattle.mesh_stream.proofs.Views.{introduced-++, finalized-++}
 use Rattle.mesh_stream.proofs.Distinct.{kept_within}
 

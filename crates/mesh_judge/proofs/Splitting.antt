@@ -1,11 +1,11 @@
 -- Judging a list whose front is accepted.
-use Rattle.std.proofs.Common.{◌≡◌, ℕ, List, [], ◌∷◌, ◌++◌, Some, None, Option, sym, refl, ap, ◌∙◌, subst, append_assoc, append-nil}
+use Rattle.std.proofs.Common.{◌≡◌, List, [], ◌∷◌, ◌++◌, Some, Option, sym, ap, ◌∙◌, append_assoc, append-nil}
 use Rattle.mesh_stream.specs.declared.event.Event.{Event}
 use Rattle.mesh_stream.specs.declared.fault.Cause.{Cause}
 use Rattle.mesh_stream.specs.declared.fault.LayerName.{LayerName}
 use Rattle.mesh_stream.specs.declared.stage.Standing.{Standing}
 use Rattle.mesh_stream.specs.Events.{place_of}
-use Rattle.mesh_stream.specs.Meaning.{Outcome, outcome}
+use Rattle.mesh_stream.specs.Meaning.{outcome}
 use Rattle.mesh_judge.specs.Accepting.{Rules, accept, accepted_after, Accepted, AcceptedAfter, Stop, stop, stop_after, fault, stands_over, stands_by, judged}
 
 module _ (rules : Rules) where

@@ -1,10 +1,10 @@
 -- The bytes kept, moved to the front and fed.
-use Rattle.std.proofs.Common.{◌≡◌, ℕ, ◌+◌, ◌-◌, ◌≤◌, min, Bool, true, false, List, [], ◌∷◌, ◌++◌, length, take, drop, sym, refl, ap, ◌∙◌, subst, append_assoc, arith, length-append, length-drop}
+use Rattle.std.proofs.Common.{◌≡◌, ℕ, ◌+◌, ◌-◌, ◌≤◌, min, Bool, false, List, ◌++◌, length, take, drop, sym, ap, ◌∙◌, subst, append_assoc, arith, length-append, length-drop}
 use borrow.Rule.Slice.PartMut.{put_mid}
 use lib.Seq.{paste}
 use Rattle.std.proofs.lemmas.List.{length-take, take_at}
 use Rattle.std.proofs.lemmas.Slice.{take-put_mid}
-use Rattle.mesh_stream.specs.Meaning.{Mark, room, Open}
+use Rattle.mesh_stream.specs.Meaning.{room, Open}
 use Rattle.mesh_stream.specs.Calls.{Takes}
 use Rattle.mesh_reader.specs.declared.reader.TextReader.{TextReader}
 use Rattle.mesh_reader.specs.Reading.{reading_from}

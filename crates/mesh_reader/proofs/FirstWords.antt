@@ -1,10 +1,9 @@
 -- The first word of a line.
-use Rattle.std.proofs.Common.{◌≡◌, ℕ, ◌+◌, ◌<◌, Bool, true, false, cond, eqb, List, [], ◌∷◌, length, get_or, drop, sym, refl, ap, ◌∙◌}
+use Rattle.std.proofs.Common.{◌≡◌, ℕ, ◌+◌, ◌<◌, true, false, eqb, List, [], ◌∷◌, length, get_or, drop, sym, refl, ap, ◌∙◌}
 use Rattle.std.proofs.lemmas.Bool.{both_ways, or_parts}
-use Rattle.mesh_reader.specs.declared.content.FirstWord.{FirstWord}
-use Rattle.mesh_reader.specs.declared.content.FirstWord.TheVariants.{Missing, Comment, Letter, Other}
-use Rattle.mesh_reader.specs.Text.{blank, words, line_end}
-use Rattle.mesh_reader.specs.Scanning.{separates, front, behind, at_word_end, rest_words, Within}
+use Rattle.mesh_reader.specs.declared.content.FirstWord.TheVariants.{Comment, Letter, Other}
+use Rattle.mesh_reader.specs.Text.{blank, line_end}
+use Rattle.mesh_reader.specs.Scanning.{separates, front, at_word_end, rest_words, Within}
 use Rattle.mesh_reader.specs.Reading.{first_word, behind_first, kind_of, by_first_byte}
 use Rattle.mesh_reader.proofs.Words.{word_first, word_off, word_byte, word_more, front_on, front_end, behind_more, within_more, within_here}
 use Rattle.mesh_reader.proofs.Magnitudes.{behind_end}

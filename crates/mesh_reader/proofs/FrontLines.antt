@@ -7,7 +7,7 @@ use Rattle.mesh_stream.specs.declared.fault.Cause.TheVariants.{LineTooLong, TooM
 use Rattle.mesh_stream.specs.declared.stage.Standing.TheVariants.{Waiting, Ended}
 use Rattle.mesh_stream.specs.Meaning.{Mark, unclosed, closed, Outcome, outcome}
 use Rattle.mesh_reader.specs.declared.content.LineContent.{LineContent}
-use Rattle.mesh_reader.specs.declared.content.LineContent.TheVariants.{Nothing, Gives, Wrong}
+use Rattle.mesh_reader.specs.declared.content.LineContent.TheVariants.{Wrong}
 use Rattle.mesh_reader.specs.Text.{onto_first, split, pieces, some_bytes, words, line_end, last_counts, lines_in}
 use Rattle.mesh_reader.specs.Reading.{by_words, in_time, line_content, fault, and_on, read_lines, at_end, reading_from, rejoined, after_line, unread_pieces, unread}
 use Rattle.mesh_reader.specs.ReadingLaw.{SomePieces, some_pieces, line_before, first_piece_long, long_cause, long_wrong}

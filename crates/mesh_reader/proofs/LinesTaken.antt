@@ -1,11 +1,11 @@
 -- A line that was read and dropped.
-use Rattle.std.proofs.Common.{◌≡◌, ℕ, suc, ◌+◌, ◌-◌, ◌<◌, ◌≤◌, min, Bool, true, false, List, [], ◌∷◌, length, take, drop, sym, refl, ap, ◌∙◌, subst, add-one, arith, length-drop}
+use Rattle.std.proofs.Common.{◌≡◌, ℕ, suc, ◌+◌, ◌-◌, ◌≤◌, Bool, true, false, List, length, take, drop, sym, refl, ap, ◌∙◌, add-one, arith, length-drop}
 use Rattle.std.proofs.lemmas.List.{drop-drop, drop-take, length-take}
 use Rattle.mesh_stream.specs.declared.event.Point.{Point}
 use Rattle.mesh_stream.specs.declared.event.Event.{Event}
 use Rattle.mesh_stream.specs.declared.event.Event.TheVariants.{Vertex, Triangle, Finalization}
 use Rattle.mesh_stream.specs.declared.stage.Answer.TheVariants.{Item}
-use Rattle.mesh_stream.specs.Meaning.{Mark, Outcome, prepend, Port}
+use Rattle.mesh_stream.specs.Meaning.{Mark, prepend}
 use Rattle.mesh_stream.specs.Calls.{SameKind}
 use Rattle.mesh_reader.specs.declared.content.LineContent.{LineContent}
 use Rattle.mesh_reader.specs.declared.content.LineContent.TheVariants.{Nothing, Gives}

@@ -1,7 +1,6 @@
 -- Worked examples of reading: each text with its events and how it stands.
-use Rattle.std.specs.Prelude.{◌≡◌, ℕ, List, [], ◌∷◌, ◌++◌, replicate, ℤ, pos, negsuc, codes}
+use Rattle.std.specs.Prelude.{◌≡◌, ℕ, List, [], ◌∷◌, ◌++◌, replicate, pos, negsuc, codes}
 use Rattle.std.specs.List.{flat_map}
-use Rattle.mesh_stream.specs.declared.event.Event.{Event}
 use Rattle.mesh_stream.specs.declared.event.Event.TheVariants.{Triangle, Finalization}
 use Rattle.mesh_stream.specs.declared.fault.Cause.{Cause}
 use Rattle.mesh_stream.specs.declared.fault.Cause.TheVariants.{LineTooLong, UnknownWord, WordCount, NotANumber, OutOfRange}

@@ -1,8 +1,8 @@
 -- A reader in mid-text: what it means by the bytes that it keeps.
-use Rattle.std.specs.Prelude.{◌≡◌, ℕ, suc, ◌-◌, ◌<◌, ◌≤◌, Bool, true, false, List, [], ◌∷◌, ◌++◌, length, drop, Some, None, Option, ◌≢◌, refl}
+use Rattle.std.specs.Prelude.{◌≡◌, ℕ, suc, ◌-◌, ◌<◌, ◌≤◌, Bool, true, false, List, [], ◌++◌, length, drop, Some, None, Option, ◌≢◌, refl}
 use Rattle.std.proofs.Common.{sym, ap, subst, ◌∙◌, append-nil, append_assoc, arith}
 use Rattle.mesh_stream.specs.declared.event.Event.{Event}
-use Rattle.mesh_stream.specs.Meaning.{Mark, unclosed, closed, Outcome, outcome, Meaning, Port, open_for, shut, Begins, IsWaiting, Lawful}
+use Rattle.mesh_stream.specs.Meaning.{Mark, unclosed, closed, outcome, Meaning, Port, open_for, shut, Begins, Lawful}
 use Rattle.mesh_reader.specs.declared.content.LineContent.{LineContent}
 use Rattle.mesh_reader.specs.declared.scan.Scanned.{Scanned}
 use Rattle.mesh_reader.specs.Reading.{reading_from, and_on, at_end, in_time, after_line, unread}

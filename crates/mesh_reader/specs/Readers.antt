@@ -52,8 +52,8 @@ pub record SameBut (r s : TextReader) : Type 0 where
 
 -- Refused with number 1 exactly where it is closed.
 abbrev pub OpenOr : Result (Unit {0}) Refusal → Bool → Type 0
-OpenOr (Ok _) is-closed = is-closed ≡ false
-OpenOr (Err e) is-closed = (is-closed ≡ true) × (e ≡ InletClosed)
+OpenOr (Ok _) is_closed = is_closed ≡ false
+OpenOr (Err e) is_closed = (is_closed ≡ true) × (e ≡ InletClosed)
 
 -- What is kept after feeding.
 abbrev pub kept_fed : List ℕ → List ℕ → Result ℕ Refusal → List ℕ

@@ -1,4 +1,6 @@
 // The text reader: mesh text in, events out.
+#![tactic(auto)]
+
 mod content;
 pub mod examples;
 mod line;

@@ -1,5 +1,5 @@
 -- What one event more adds to the totals of an accepted list.
-use Rattle.std.proofs.Common.{◌≡◌, ℕ, max, true, List, [], ◌∷◌, ◌++◌, length, ℤ, pos, ◌+ℤ◌, None, sym, refl, ap, ◌∙◌, subst, append_assoc, append-nil, arith}
+use Rattle.std.proofs.Common.{◌≡◌, ℕ, max, true, List, [], ◌∷◌, ◌++◌, length, ℤ, ◌+ℤ◌, None, sym, refl, ap, ◌∙◌, subst, append_assoc, append-nil, arith}
 use lib.IntN.{+ℤ_idl, +ℤ_idr, +ℤ_assoc}
 use Rattle.std.specs.List.{AllByRecursion as All}
 use Rattle.mesh_stream.specs.declared.event.Point.{Point}

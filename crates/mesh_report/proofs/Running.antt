@@ -1,5 +1,5 @@
 -- Runs of a report over a stage, event by event.
-use Rattle.std.proofs.Common.{◌≡◌, ℕ, suc, ◌+◌, ◌<◌, ◌≤◌, Bool, true, false, cond, leb, ◌⊎◌, List, [], ◌∷◌, ◌++◌, length, take, Some, None, Option, sym, refl, ap, ◌∙◌, subst, inl, inr, append_assoc, append-nil, arith, length-append}
+use Rattle.std.proofs.Common.{◌≡◌, ℕ, ◌+◌, ◌<◌, ◌≤◌, true, false, cond, ◌⊎◌, List, [], ◌∷◌, ◌++◌, length, take, Some, None, Option, sym, refl, ap, ◌∙◌, subst, inl, inr, append_assoc, append-nil, arith, length-append}
 use Rattle.std.proofs.lemmas.List.{take_at}
 use Rattle.std.proofs.lemmas.Bool.{le-leb, lt-leb}
 use Rattle.mesh_stream.specs.declared.event.Event.{Event}
@@ -8,17 +8,17 @@ use Rattle.mesh_stream.specs.declared.fault.LayerName.TheVariants.{Report as Rep
 use Rattle.mesh_stream.specs.declared.stage.Standing.{Standing}
 use Rattle.mesh_stream.specs.declared.stage.Standing.TheVariants.{Waiting, Ended, Faulty}
 use Rattle.mesh_stream.specs.Events.{place_of}
-use Rattle.mesh_stream.specs.Meaning.{Mark, unclosed, Outcome, outcome, prepend, Meaning, Port, textless, open_for, shut, IsWaiting}
+use Rattle.mesh_stream.specs.Meaning.{unclosed, Outcome, outcome, Meaning, Port, textless, open_for, shut, IsWaiting}
 use Rattle.mesh_stream.specs.Calls.{SameKind, HandsOver, Idles}
 use Rattle.mesh_stream.specs.Runs.{prepends}
 use Rattle.mesh_judge.specs.declared.judge.Judge.{Judge}
 use Rattle.mesh_judge.specs.declared.live.Live.{Live}
 use Rattle.mesh_judge.specs.Windows.{Window, first, end_by, ending}
 use Rattle.mesh_judge.specs.Judging.{KnowsList, live_limit, window_of, Stands}
-use Rattle.mesh_judge.specs.Accepting.{refusal, Accepted, accepted_after, stop_after, fault, stands_by, stands_over}
+use Rattle.mesh_judge.specs.Accepting.{refusal, Accepted, fault, stands_over}
 use Rattle.mesh_judge.proofs.Splitting.{judged_after, judged_all, judged_stop}
 use Rattle.mesh_report.specs.declared.report.Report.{Report}
-use Rattle.mesh_report.specs.Reporting.{reported, once_asked_for, Taken, TakesMore, TakesOne, TakesNone, GaveNone, MetFault, Halted, GoesOn, Runs, RunsOut, RanFrom, RanOutFrom, Asked}
+use Rattle.mesh_report.specs.Reporting.{reported, once_asked_for, Taken, TakesMore, TakesNone, Halted, GoesOn, Runs, RanFrom, RanOutFrom, Asked}
 
 pub same_kind : (p q u : Port) → SameKind p q → SameKind q u → SameKind p u
 same_kind textless q u a b = subst (λ (z : Port). SameKind z u) a b

@@ -1,5 +1,5 @@
 -- What a report over a stream will say, through each of its calls.
-use Rattle.std.proofs.Common.{◌≡◌, ℕ, suc, ◌+◌, ◌<◌, ◌≤◌, min, Bool, true, false, eqb, ◌⊎◌, List, [], ◌∷◌, ◌++◌, length, take, drop, Ok, Err, Result, sym, refl, ap, ◌∙◌, subst, inl, inr, append_assoc, append-nil, arith}
+use Rattle.std.proofs.Common.{◌≡◌, ℕ, ◌<◌, ◌≤◌, min, Bool, false, eqb, ◌⊎◌, List, [], ◌∷◌, ◌++◌, length, take, drop, Ok, Err, Result, sym, refl, ap, ◌∙◌, subst, inl, inr, append_assoc, append-nil, arith}
 use Rattle.std.proofs.lemmas.Bool.{both_ways}
 use Rattle.std.proofs.lemmas.List.{take-append-drop}
 use Rattle.mesh_stream.specs.declared.event.Event.{Event}
@@ -7,15 +7,14 @@ use Rattle.mesh_stream.specs.declared.fault.LayerName.TheVariants.{Report as Rep
 use Rattle.mesh_stream.specs.declared.fault.Refusal.{Refusal}
 use Rattle.mesh_stream.specs.declared.stage.Standing.{Standing}
 use Rattle.mesh_stream.specs.declared.stage.Standing.TheVariants.{Waiting, Ended, Faulty}
-use Rattle.mesh_stream.specs.Meaning.{Mark, unclosed, closed, Outcome, outcome, Meaning, Port, textless, open_for, shut, Open, room, IsWaiting, Lawful}
+use Rattle.mesh_stream.specs.Meaning.{unclosed, closed, Outcome, outcome, Meaning, Port, textless, open_for, shut, Open, room, IsWaiting, Lawful}
 use Rattle.mesh_stream.specs.Calls.{Roomy, Takes, Refused, Closed}
-use Rattle.mesh_stream.specs.Runs.{prepends}
 use Rattle.mesh_judge.specs.Accepting.{end_with, stands_over, refusal}
 use Rattle.mesh_judge.proofs.Splitting.{judged_all, judged_stop}
 use Rattle.mesh_report.specs.declared.totals.Totals.{Totals}
 use Rattle.mesh_report.specs.declared.report.Report.{Report}
 use Rattle.mesh_report.specs.Spelling.{report_text}
-use Rattle.mesh_report.specs.Reporting.{totals_of, reported, Taken, TakesMore, GaveNone, MetFault, Halted, StaysPut, RunsOut, RanOutFrom}
+use Rattle.mesh_report.specs.Reporting.{totals_of, reported, Taken, TakesMore, GaveNone, MetFault, Halted, StaysPut, RanOutFrom}
 use Rattle.mesh_report.specs.Streaming.{resumed, WillReport, report_of, Finished}
 use Rattle.mesh_report.proofs.Running.{accepted_of}
 
@@ -125,12 +124,12 @@ module _ (r : Report) (q : Port) (H : Meaning Event) (q' : Port) (K : Meaning Ev
 
   -- a closed inlet heeds no text
   pub will_refuse : (e : Refusal) → Lawful q H → Refused q H e q' K → (t : List ℕ) (o : Outcome Event) → WillReport H r (rest ++ t) o → WillReport K r t o
-  will_refuse e law no-feed t o will = record {
+  will_refuse e law no_feed t o will = record {
     so_far = will.so_far;
     taken = will.taken;
     then_on =
         will.then_on
-        ∙ ap (resumed will.so_far r.standing) (law.shut_fixed no-feed.was_shut (rest ++ t) closed ∙ sym (law.shut_fixed no-feed.was_shut t closed) ∙ sym (no-feed.same t closed));
+        ∙ ap (resumed will.so_far r.standing) (law.shut_fixed no_feed.was_shut (rest ++ t) closed ∙ sym (law.shut_fixed no_feed.was_shut t closed) ∙ sym (no_feed.same t closed));
   }
 
   -- where the report takes no more, no byte matters
@@ -161,7 +160,7 @@ module _ (r : Report) (q : Port) (H : Meaning Event) (q' : Port) (K : Meaning Ev
 module _ (r s : Report) (p : Port) (G : Meaning Event) (q : Port) (H : Meaning Event) (v : Port) (K : Meaning Event) (law : Lawful p G) where
   closed_now : (a : Result (Unit {0}) Refusal) → Closed p G a q H → H [] unclosed ≡ G [] closed
   closed_now (Ok u) shuts = shuts.final [] unclosed
-  closed_now (Err e) no-close = no-close.same [] unclosed ∙ sym (law.shut_fixed no-close.was_shut [] closed)
+  closed_now (Err e) no_close = no_close.same [] unclosed ∙ sym (law.shut_fixed no_close.was_shut [] closed)
 
   finishes : (es : List Event) (st : Standing) (o : Outcome Event) → Taken s es → s.standing ≡ st → o ≡ outcome es st → Finished s o
   finishes es st o h w e = record {

@@ -1,6 +1,5 @@
 -- The sums of a report's totals, kept by each event.
-use Rattle.std.proofs.Common.{◌≡◌, ℕ, ◌+◌, ◌-◌, ◌*◌, ◌<◌, ◌≤◌, ℤ, nat_abs, Some, sym, ap, ◌∙◌, subst, arith}
-use Rattle.mesh_judge.specs.declared.live.Live.{Live}
+use Rattle.std.proofs.Common.{◌≡◌, ℕ, ◌+◌, ◌*◌, ◌<◌, ◌≤◌, ℤ, nat_abs, sym, ap, ◌∙◌, subst, arith}
 use Rattle.mesh_judge.specs.Windows.{Window, counted, leaves}
 use Rattle.mesh_report.specs.declared.totals.Totals.{Totals}
 use Rattle.mesh_report.specs.Sums.{Sums}

@@ -1,24 +1,22 @@
 -- What is counted of one event, by the whole list.
-use Rattle.std.proofs.Common.{◌≡◌, ℕ, ◌+◌, max, true, List, [], ◌∷◌, ◌++◌, length, ℤ, ◌+ℤ◌, Some, None, Ok, Err, Option, sym, refl, ap, ◌∙◌, subst, append-nil, arith, length-append}
+use Rattle.std.proofs.Common.{◌≡◌, ℕ, max, true, List, [], ◌∷◌, ◌++◌, length, Some, None, Ok, sym, ap, ◌∙◌, subst, append-nil, length-append}
 use Rattle.mesh_stream.specs.declared.event.Point.{Point}
 use Rattle.mesh_stream.specs.declared.event.Event.{Event}
 use Rattle.mesh_stream.specs.declared.event.Event.TheVariants.{Vertex, Triangle, Finalization}
 use Rattle.mesh_stream.specs.declared.fault.Cause.{Cause}
-use Rattle.mesh_stream.specs.declared.stage.Standing.{Standing}
-use Rattle.mesh_stream.specs.Events.{introduced, finalized, triangles, point}
+use Rattle.mesh_stream.specs.Events.{introduced, finalized, point}
 use Rattle.mesh_stream.specs.Live.{live, is_live, width}
 use Rattle.mesh_stream.proofs.Views.{introduced_v, introduced_t, introduced_f, finalized_v, finalized_t, finalized_f, triangles_v, triangles_t, triangles_f}
 use Rattle.mesh_judge.specs.declared.live.Live.{Live}
-use Rattle.mesh_judge.specs.declared.live.Corners.{Corners}
 use Rattle.mesh_judge.specs.declared.judge.Judge.{Judge}
 use Rattle.mesh_judge.specs.Accepting.{refusal, Accepted}
 use Rattle.mesh_judge.specs.Windows.{Window, Knows}
-use Rattle.mesh_judge.specs.Judging.{window_of, live_limit, KnowsList, Accepts, Rejects, Cornered}
+use Rattle.mesh_judge.specs.Judging.{window_of, live_limit, KnowsList, Accepts, Rejects}
 use Rattle.mesh_judge.proofs.Refusing.{triangle_ok}
 use Rattle.mesh_judge.proofs.Knowing.{at_live}
 use Rattle.mesh_report.specs.declared.totals.Totals.{Totals}
 use Rattle.mesh_report.specs.declared.report.Report.{Report}
-use Rattle.mesh_report.specs.Areas.{twice_area, area}
+use Rattle.mesh_report.specs.Areas.{twice_area}
 use Rattle.mesh_report.specs.Counting.{one_vertex, one_triangle, one_finalized, at_least_wide, WidthNoted, VertexCounted, TriangleCounted, FinalizationCounted}
 use Rattle.mesh_report.specs.Reporting.{totals_of, Taken, TakesOne, TakesNone}
 use Rattle.mesh_report.proofs.Adding.{width_step, area_vertex, area_triangle, area_final}
@@ -62,12 +60,12 @@ knows_as j k es w l h = subst (λ (z : Window (Unit {0})). Knows (live_limit k) 
 module _ (r s : Report) where
   -- The judge rejects the event, and nothing is counted.
   pub takes_none : (e : Event) (c : Cause) → Rejects r.judge e c s.judge → s.totals ≡ r.totals → s.standing ≡ r.standing → TakesNone r s e c
-  takes_none e c no-event t st = record {
-    why = λ es h. subst (λ (l : ℕ). refusal l es e ≡ Some c) h.limit (no-event.by_list es h.knows);
+  takes_none e c no_event t st = record {
+    why = λ es h. subst (λ (l : ℕ). refusal l es e ≡ Some c) h.limit (no_event.by_list es h.knows);
     takes = λ es h. subst (Taken s) (sym (append-nil es)) (record {
       totals = t ∙ h.totals;
-      knows = knows_as r.judge s.judge es no-event.window no-event.limit h.knows;
-      limit = no-event.limit ∙ h.limit;
+      knows = knows_as r.judge s.judge es no_event.window no_event.limit h.knows;
+      limit = no_event.limit ∙ h.limit;
     });
     standing = st;
   }

@@ -1,5 +1,5 @@
 -- What a report keeps of the events that it took, and what its calls do.
-use Rattle.std.specs.Prelude.{◌≡◌, ℕ, suc, ◌+◌, ◌<◌, ◌≤◌, Bool, true, false, cond, ◌⊎◌, List, [], ◌∷◌, ◌++◌, length, take, Some, None, Ok, Err, Result, nat_le}
+use Rattle.std.specs.Prelude.{◌≡◌, ℕ, ◌+◌, ◌<◌, Bool, true, false, cond, ◌⊎◌, List, [], ◌∷◌, ◌++◌, length, take, Some, None, Ok, Err, Result, nat_le}
 use Rattle.mesh_stream.specs.declared.event.Event.{Event}
 use Rattle.mesh_stream.specs.declared.fault.Cause.{Cause}
 use Rattle.mesh_stream.specs.declared.fault.LayerName.TheVariants.{Report as ReportName}
@@ -7,7 +7,7 @@ use Rattle.mesh_stream.specs.declared.stage.Standing.{Standing}
 use Rattle.mesh_stream.specs.declared.stage.Standing.TheVariants.{Waiting, Ended, Faulty}
 use Rattle.mesh_stream.specs.Events.{place_of, introduced, finalized, triangles}
 use Rattle.mesh_stream.specs.Live.{width}
-use Rattle.mesh_stream.specs.Meaning.{Mark, unclosed, closed, Outcome, outcome, Meaning, Port, IsWaiting, Same}
+use Rattle.mesh_stream.specs.Meaning.{Mark, unclosed, Outcome, outcome, Meaning, Port, IsWaiting, Same}
 use Rattle.mesh_stream.specs.Calls.{SameKind, Roomy, HandsOver}
 use Rattle.mesh_stream.specs.Runs.{prepends}
 use Rattle.mesh_judge.specs.Accepting.{refusal, fault, stands_over, judged}

@@ -1,5 +1,5 @@
 -- What a report's totals keep, whatever was taken.
-use Rattle.std.specs.Prelude.{◌≡◌, ℕ, ◌+◌, ◌*◌, ◌≤◌, unsigned_abs}
+use Rattle.std.specs.Prelude.{◌≡◌, ◌+◌, ◌*◌, ◌≤◌, unsigned_abs}
 use Rattle.mesh_judge.specs.Windows.{Window}
 use Rattle.mesh_report.specs.declared.totals.Totals.{Totals}
 

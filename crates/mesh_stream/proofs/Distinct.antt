@@ -1,6 +1,6 @@
 -- Lists of different numbers.
-use Rattle.std.proofs.Common.{◌≡◌, ℕ, suc, ◌+◌, ◌<◌, ◌≤◌, Bool, true, false, cond, not, ◌&&◌, ◌||◌, eqb, ◌⊎◌, List, [], ◌∷◌, ◌++◌, length, filter, sym, refl, ap, ◌∙◌, subst, inl, inr, arith}
-use Rattle.std.proofs.lemmas.Bool.{eqb-true, eq-eqb, ne_eqb, eqb-false, or_cases, or_left, or_right, or_parts, or_from, both_ways}
+use Rattle.std.proofs.Common.{◌≡◌, ℕ, Bool, true, false, eqb, ◌⊎◌, List, [], ◌∷◌, ◌++◌, filter, sym, refl, ◌∙◌, subst, inl, inr}
+use Rattle.std.proofs.lemmas.Bool.{ne_eqb, eqb-false, or_parts, or_from, both_ways}
 use Rattle.mesh_stream.specs.Lists.{has}
 use Rattle.mesh_stream.proofs.Having.{kept_yes, kept_no, has_kept, has_kept_passes, Within, has_cases}
 

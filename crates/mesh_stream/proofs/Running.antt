@@ -1,7 +1,7 @@
 -- What is left after a list of calls on any stage that keeps the law.
-use Rattle.std.proofs.Common.{◌≡◌, ℕ, ◌⊎◌, List, [], ◌∷◌, ◌++◌, take, Ok, Err, sym, refl, ap, ◌∙◌, subst, inl, inr, append_assoc, append-nil, arith}
+use Rattle.std.proofs.Common.{◌≡◌, ℕ, ◌⊎◌, List, [], ◌∷◌, ◌++◌, take, Ok, Err, sym, refl, ap, ◌∙◌, inl, inr, append_assoc, append-nil, arith}
 use Rattle.mesh_stream.specs.declared.stage.Answer.TheVariants.{Item, Idle}
-use Rattle.mesh_stream.specs.Meaning.{Mark, unclosed, closed, Port, textless, open_for, shut, Open, Outcome, outcome, Meaning, prepend, Fixed, Lawful}
+use Rattle.mesh_stream.specs.Meaning.{Mark, unclosed, closed, Port, textless, open_for, shut, Open, Outcome, outcome, prepend, Fixed, Lawful}
 use Rattle.mesh_stream.specs.Calls.{SameKind}
 use Rattle.mesh_stream.specs.Runs.{View, Call, feeds, closes, asks, Step, Run, taken, handed, mark_of, prepends, Left}
 

@@ -6,7 +6,7 @@ use Rattle.mesh_stream.specs.declared.stage.Standing.{Standing}
 use Rattle.mesh_stream.specs.declared.stage.Answer.{Answer}
 use Rattle.mesh_stream.specs.declared.stage.Answer.TheVariants.{Item, Idle}
 use Rattle.mesh_stream.specs.Numbers.{refusal_number}
-use Rattle.mesh_stream.specs.Meaning.{Mark, unclosed, closed, Outcome, outcome, prepend, Meaning, Port, textless, open_for, shut, room, Open, IsWaiting, Same}
+use Rattle.mesh_stream.specs.Meaning.{Mark, unclosed, closed, outcome, prepend, Meaning, Port, textless, open_for, shut, room, Open, IsWaiting, Same}
 
 -- Only close turns an open port into a closed one, and nothing opens it again; the room may change.
 abbrev pub SameKind : Port → Port → Type 0

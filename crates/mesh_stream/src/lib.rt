@@ -1,4 +1,6 @@
 // What flows through a mesh pipe, and the interface of all that it flows through.
+#![tactic(auto)]
+
 pub mod event;
 pub mod fault;
 pub mod runs;

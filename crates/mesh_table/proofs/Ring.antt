@@ -1,5 +1,5 @@
 -- Slots round a ring of n.
-use Rattle.std.proofs.Common.{◌≡◌, ℕ, ◌+◌, ◌*◌, ◌^◌, ◌<◌, ◌≤◌, subst, mul_comm, div-lt_iff_lt-mul, mul-lt-mul_of_pos_right, arith, lit<}
+use Rattle.std.proofs.Common.{◌≡◌, ℕ, ◌+◌, ◌*◌, ◌^◌, ◌<◌, subst, mul_comm, div-lt_iff_lt-mul, mul-lt-mul_of_pos_right, arith, lit<}
 use Rattle.std.proofs.lemmas.Bool.Decides.{nat_tests}
 use Rattle.mesh_table.specs.declared.key.Key.{Key}
 use Rattle.mesh_table.specs.Keys.{spread}

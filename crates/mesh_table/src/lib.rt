@@ -1,4 +1,6 @@
 // A hash table of records by key, in a fixed array.
+#![tactic(auto)]
+
 pub mod key;
 mod slots;
 pub mod table;

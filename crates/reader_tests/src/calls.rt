@@ -3,6 +3,7 @@ use mesh_reader::reader::TextReader;
 use mesh_stream::fault::{Cause, Refusal};
 use mesh_stream::stage::{Answer, Inlet, Stage, Standing};
 use std::process::Abort;
+use std::test::Fail;
 
 // Feeding and closing are both refused, and change nothing.
 fn check_refuses(rt: &impl Abort, reader: &mut TextReader) {

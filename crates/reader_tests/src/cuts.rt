@@ -6,6 +6,7 @@ use mesh_stream::fault::Cause;
 use mesh_stream::stage::{Answer, Inlet, Stage, Standing};
 use std::alloc::Global;
 use std::process::Abort;
+use std::test::Fail;
 
 // What a reader handed over, and how it stood in the end.
 #[derive(Drop, PartialEq, Debug)]

@@ -1,4 +1,6 @@
 // Tests of the text reader through its public calls.
+#![tactic(auto)]
+
 #[cfg(test)]
 mod calls;
 #[cfg(test)]

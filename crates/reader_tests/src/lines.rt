@@ -1,6 +1,7 @@
 use crate::readers::*;
 use mesh_stream::fault::Cause;
 use mesh_stream::stage::{Inlet, Standing};
+use std::test::Fail;
 
 #[test]
 fn a_line_of_127_bytes(rt: HostRuntime) -> Result<(), Fail> {

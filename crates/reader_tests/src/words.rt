@@ -1,22 +1,24 @@
 use crate::readers::*;
 use mesh_stream::event::Event;
 use mesh_stream::fault::Cause;
-use mesh_stream::stage::Standing;
+use mesh_stream::stage::{Answer, Stage, Standing};
 use std::process::Abort;
-
-// The text is one line, and it is at fault.
-fn check_fault(rt: &impl Abort, text: &[u8], cause: Cause) -> Result<(), Fail> {
-    let mut reader = closed_with(rt, text)?;
-    check_gives(rt, &mut reader, &[], faulty(cause, 1));
-    Ok(())
-}
+use std::test::Fail;
 
 // Each text is one line, and all are at fault for the same cause.
 fn check_faults(rt: &impl Abort, texts: &[&[u8]], cause: Cause) -> Result<(), Fail> {
+    let fault: Answer<Event> = Answer::Idle(faulty(cause, 1));
     for (index, text) in texts.iter().enumerate() {
-        check_fault(rt, text, cause).note(index)?;
+        let mut reader = closed_with(rt, text)?;
+        assert_eq!(rt; reader.next(), fault, "text {}", index);
+        assert_eq!(rt; reader.next(), fault, "text {}", index);
     }
     Ok(())
+}
+
+// The text is one line, and it is at fault.
+fn check_fault(rt: &impl Abort, text: &[u8], cause: Cause) -> Result<(), Fail> {
+    check_faults(rt, &[text], cause)
 }
 
 // The text is one line, and it gives the event.

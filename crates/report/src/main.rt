@@ -1,4 +1,6 @@
 // Reads a mesh text from standard input and prints the report on its events.
+#![tactic(auto)]
+
 use mesh_report::report::Report;
 use mesh_report::stream_report::text::text_report;
 use std::io;

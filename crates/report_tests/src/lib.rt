@@ -1,4 +1,6 @@
 // Tests of reports through their public calls.
+#![tactic(auto)]
+
 #[cfg(test)]
 mod records;
 #[cfg(test)]

@@ -10,17 +10,12 @@ use mesh_stream::stage::Standing;
 use std::process::Abort;
 use std::test::Fail;
 
-fn check_stands(rt: &impl Abort, records: &[Event], standing: Standing) -> Result<(), Fail> {
-    let mut report = Report::new();
-    report.run_out(&mut ListStage::new(records));
-    assert_eq!(rt; report.standing(), standing);
-    Ok(())
-}
-
 // A report on each of the lists stands so.
 fn check_all_stand(rt: &impl Abort, lists: &[&[Event]], standing: Standing) -> Result<(), Fail> {
     for (index, records) in lists.iter().enumerate() {
-        check_stands(rt, records, standing).note(index)?;
+        let mut report = Report::new();
+        report.run_out(&mut ListStage::new(records));
+        assert_eq!(rt; report.standing(), standing, "list {}", index);
     }
     Ok(())
 }

@@ -32,15 +32,22 @@ const CASES: [Case; 4] = [
     },
 ];
 
+// Finishes a report whose first piece had so many bytes.
 fn check_finished(
     rt: &impl Abort,
+    first: usize,
     report: StreamReport<TextReader>,
     expected: &str,
 ) -> Result<(), Fail> {
     let mut buffer = [0; 256];
     let size = report.finish().spell(&mut buffer)?;
     assert!(rt; size <= 256);
-    assert_eq!(rt; from_utf8(&buffer[0..size])?, expected);
+    assert_eq!(rt;
+        from_utf8(&buffer[0..size])?,
+        expected,
+        "first piece of {} bytes",
+        first
+    );
     Ok(())
 }
 
@@ -48,12 +55,12 @@ fn check_in_two(rt: &impl Abort, head: &[u8], tail: &[u8], expected: &str) -> Re
     let mut report = text_report();
     report.push(head);
     report.push(tail);
-    check_finished(rt, report, expected)
+    check_finished(rt, head.len(), report, expected)
 }
 
 fn check_every_cut(rt: &impl Abort, text: &[u8], expected: &str) -> Result<(), Fail> {
     for cut in 0..=text.len() {
-        check_in_two(rt, &text[0..cut], &text[cut..], expected).note(cut)?;
+        check_in_two(rt, &text[0..cut], &text[cut..], expected)?;
     }
     Ok(())
 }
@@ -63,31 +70,31 @@ fn check_byte_by_byte(rt: &impl Abort, text: &[u8], expected: &str) -> Result<()
     for byte in text {
         report.push(&[*byte]);
     }
-    check_finished(rt, report, expected)
+    check_finished(rt, 1, report, expected)
 }
 
 #[test]
 fn in_one_piece(rt: HostRuntime) -> Result<(), Fail> {
-    for (index, case) in CASES.iter().enumerate() {
+    for case in CASES.iter() {
         let mut report = text_report();
         report.push(case.text);
-        check_finished(&rt, report, case.report).note(index)?;
+        check_finished(&rt, case.text.len(), report, case.report)?;
     }
     Ok(())
 }
 
 #[test]
 fn in_two_pieces(rt: HostRuntime) -> Result<(), Fail> {
-    for (index, case) in CASES.iter().enumerate() {
-        check_every_cut(&rt, case.text, case.report).note(index)?;
+    for case in CASES.iter() {
+        check_every_cut(&rt, case.text, case.report)?;
     }
     Ok(())
 }
 
 #[test]
 fn byte_by_byte(rt: HostRuntime) -> Result<(), Fail> {
-    for (index, case) in CASES.iter().enumerate() {
-        check_byte_by_byte(&rt, case.text, case.report).note(index)?;
+    for case in CASES.iter() {
+        check_byte_by_byte(&rt, case.text, case.report)?;
     }
     Ok(())
 }
@@ -109,7 +116,7 @@ fn check_at_fault(rt: &impl Abort, text: &[u8], expected: &str) -> Result<(), Fa
     for _ in 0..9 {
         report.push(&piece);
     }
-    check_finished(rt, report, expected)
+    check_finished(rt, text.len(), report, expected)
 }
 
 #[test]
@@ -136,6 +143,7 @@ fn one_live_vertex_too_many(rt: HostRuntime) -> Result<(), Fail> {
     report.push(b"x 500\nv 0 0 0\nv 0 0 0\n");
     check_finished(
         &rt,
+        8,
         report,
         "vertices 1025\ntriangles 0\nfinalized 1\nwidth 1024\narea 0\nfault report 9 1027\n",
     )

@@ -1,6 +1,8 @@
 // Keeps 1,000 vertices in a table: in each round one comes in, one is found, and the oldest goes out.
 //     table_bench          runs a few rounds, and prints what is left
 //     table_bench ROUNDS   prints also the nanoseconds of an operation in the first and in the last tenth of the rounds
+#![tactic(auto)]
+
 use anyhow::anyhow;
 use mesh_table::key::Key;
 use mesh_table::table::Table;

@@ -1,3 +1,5 @@
 // Tests of the table through its public calls.
+#![tactic(auto)]
+
 #[cfg(test)]
 mod records;

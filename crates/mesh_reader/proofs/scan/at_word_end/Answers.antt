@@ -13,6 +13,6 @@ returns-then-at-bytes c =
 
 pub returns-else-at-bytes : goal.returns-else-at-bytes
 returns-else-at-bytes c = record {
-  word = c.is-separator.ensures ∙ sym (end_at c.args.bytes.now c.args.at c.if-at-bytes.false);
+  word = c.is_separator.ensures ∙ sym (end_at c.args.bytes.now c.args.at c.if-at-bytes.false);
   inside = λ e. c.if-at-bytes.false;
 }

@@ -1,16 +1,16 @@
-use Rattle.std.proofs.Common.{◌≡◌, sym, ◌∙◌, subst, arith, w64, SFits}
+use Rattle.std.proofs.Common.{sym, ◌∙◌, subst, arith, w64, SFits}
 use Rattle.std.proofs.lemmas.Int.{to_z-of_z}
 use Rattle.mesh_report.specs.Areas.{Within}
 use Rattle.mesh_report.proofs.Areas.{bits_difference, within_fits}
 use Rattle.mesh_report.proofs.area.difference.Goals as goal
 
-pub overflow-sub-result : goal.overflow-sub-result
-overflow-sub-result c =
+pub overflow_sub-result : goal.overflow_sub-result
+overflow_sub-result c =
     let p = bits_difference c.args.p c.args.q c.ranges.p c.ranges.q 40000000000 40000000000 80000000000 (omega arith) c.requires.0 c.requires.1 in
     subst (SFits w64) (sym p.0) (within_fits 80000000000 _ p.1 (omega arith))
 
 pub returns : goal.returns
 returns c =
     let p = bits_difference c.args.p c.args.q c.ranges.p c.ranges.q 40000000000 40000000000 80000000000 (omega arith) c.requires.0 c.requires.1 in
-    let e = to_z-of_z w64 _ (overflow-sub-result c) ∙ p.0 in
+    let e = to_z-of_z w64 _ (overflow_sub-result c) ∙ p.0 in
     (e, subst (Within 80000000000) (sym e) p.1)

@@ -4,8 +4,8 @@ use Rattle.mesh_bottoms.proofs.States.{grid_place}
 use Rattle.mesh_bottoms.proofs.grid.Grid.next_position.Goals as goal
 use Rattle.mesh_bottoms.proofs.grid.Grid.next_position.Goals.{then-self, else-self}
 
-pub overflow-add-self-3 : goal.overflow-add-self-3
-overflow-add-self-3 c = omega (arith, grid_place c.args.self.now c.requires)
+pub overflow_add-self-3 : goal.overflow_add-self-3
+overflow_add-self-3 c = omega (arith, grid_place c.args.self.now c.requires)
 
 pub returns : goal.returns
 returns c = record {

@@ -13,19 +13,21 @@ returns-in-Some g c =
 
 pub unreachable-requires : goal.unreachable-requires
 unreachable-requires g c =
-    not_refused c.args.self.now c.insert.new.self c.args.number c.args.vertex c.vertex.result c.in-default-insert.field-0 c.vertex.ensures.key (c.in-default.ensures c.args.vertex.place) c.in-default-insert.ensures
+    not_refused c.args.self.now c.insert.new.self c.args.number c.args.vertex c.vertex.result c.in_default-insert.field-0 c.vertex.ensures.key (c.in_default.ensures c.args.vertex.place) c.in_default-insert.ensures
 
-pub invariant-of-self : goal.invariant-of-self
-invariant-of-self g c =
+pub invariant_of-self : goal.invariant_of-self
+invariant_of-self g c =
     let j = c.args.self.now in
     let x = c.args.vertex in
     let n = c.args.number in
-    let f = fits_in (live_limit j) (window_of j) x.place n x.at (c.in-default.ensures x.place) in
-    let s = c.in-Ok.ensures.3 in (
-      entered_stray j.live c.insert.new.self j.highest j.sound n x f.above (in_space_of n x.at f.in_range) (subst (λ (q : Key). Sets j.live c.insert.new.self q (Some x)) c.vertex.ensures.key s),
-      (number_of n x.at f.in_range, (j.few, tt)),
-    )
+    let f = fits_in (live_limit j) (window_of j) x.place n x.at (c.in_default.ensures x.place) in
+    let s = c.in-Ok.ensures.3 in
+    record {
+      sound = entered_stray j.live c.insert.new.self j.highest j.sound n x f.above (in_space_of n x.at f.in_range) (subst (λ (q : Key). Sets j.live c.insert.new.self q (Some x)) c.vertex.ensures.key s);
+      numbers = number_of n x.at f.in_range;
+      few = j.few;
+    }
 
 pub returns : goal.returns
 returns g c =
-    entered c.args.self.now _ c.args.number c.args.vertex c.vertex.result c.vertex.ensures.key c.in-Ok.ensures.2 c.in-Ok.ensures.3 refl refl (c.in-default.ensures c.args.vertex.place)
+    entered c.args.self.now _ c.args.number c.args.vertex c.vertex.result c.vertex.ensures.key c.in-Ok.ensures.2 c.in-Ok.ensures.3 refl refl (c.in_default.ensures c.args.vertex.place)

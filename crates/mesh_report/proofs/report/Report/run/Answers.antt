@@ -6,10 +6,10 @@ pub loop-taken-init : goal.loop-taken-init
 loop-taken-init g c = running_none c.args.self.now (g.S.Stage.port c.args.stage.now) (g.S.Stage.meaning c.args.stage.now) c.in-Waiting.is
 
 pub loop-taken-preserved : goal.loop-taken-preserved
-loop-taken-preserved g c = running_more _ _ _ _ _ _ _ _ _ c.loop-taken.taken c.loop-taken.invariant c.if-not-take-next.ensures
+loop-taken-preserved g c = running_more _ _ _ _ _ _ _ _ _ c.loop-taken.taken c.loop-taken.invariant c.if-not-take_next.ensures
 
-pub returns-then-not-take-next : goal.returns-then-not-take-next
-returns-then-not-take-next g c = ran_short _ _ _ _ _ _ _ _ _ c.in-Waiting.is c.loop-taken.taken c.loop-taken.invariant c.if-not-take-next.ensures c.args.n c.loop-taken-test.true
+pub returns-then-not-take_next : goal.returns-then-not-take_next
+returns-then-not-take_next g c = ran_short _ _ _ _ _ _ _ _ _ c.in-Waiting.is c.loop-taken.taken c.loop-taken.invariant c.if-not-take_next.ensures c.args.n c.loop-taken-test.true
 
 pub returns : goal.returns
 returns g c =

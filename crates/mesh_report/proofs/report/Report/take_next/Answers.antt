@@ -1,4 +1,4 @@
-use Rattle.std.proofs.Common.{◌≡◌, [], sym, refl, ap, ◌∙◌, append-nil}
+use Rattle.std.proofs.Common.{refl}
 use Rattle.mesh_report.proofs.Running.{met_fault, gave_none}
 use Rattle.mesh_report.proofs.report.Report.take_next.Goals as goal
 

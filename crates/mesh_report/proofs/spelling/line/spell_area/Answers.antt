@@ -8,8 +8,8 @@ pub returns : goal.returns
 returns c =
     let area = c.args.totals.now.area in
     let fits : SFits w64 area = search rules in
-    let two = behind _ _ _ _ _ _ _ c.spell-text-at.ensures c.spell-signed-at.ensures.written in
+    let two = behind _ _ _ _ _ _ _ c.spell_text-at.ensures c.spell_signed-at.ensures.written in
     record {
-      written = same_bytes (ap (λ (z : ℤ). as_line (codes "area " ++ spelled_signed z)) (to_z-of_z w64 area fits)) (behind _ _ _ _ _ _ _ two c.spell-byte.ensures);
+      written = same_bytes (ap (λ (z : ℤ). as_line (codes "area " ++ spelled_signed z)) (to_z-of_z w64 area fits)) (behind _ _ _ _ _ _ _ two c.spell_byte.ensures);
       short = omega arith;
     }

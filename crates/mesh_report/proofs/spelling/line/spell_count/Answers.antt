@@ -4,5 +4,5 @@ use Rattle.mesh_report.proofs.spelling.line.spell_count.Goals as goal
 
 pub returns : goal.returns
 returns c =
-    let two = behind _ _ _ _ _ _ _ c.spell-text-at.ensures c.spell-u32-at.ensures.written in
-    record { written = behind _ _ _ _ _ _ _ two c.spell-byte.ensures; short = omega arith }
+    let two = behind _ _ _ _ _ _ _ c.spell_text-at.ensures c.spell_u32-at.ensures.written in
+    record { written = behind _ _ _ _ _ _ _ two c.spell_byte.ensures; short = omega arith }

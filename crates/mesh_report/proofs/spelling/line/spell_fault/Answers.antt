@@ -9,10 +9,10 @@ regroup fault layer blank cause place end = simp append_assoc
 
 pub returns : goal.returns
 returns c =
-    let two = behind _ _ _ _ _ _ _ c.spell-text-at.ensures c.spell-layer-at.ensures.written in
-    let three = behind _ _ _ _ _ _ _ two c.spell-next-at.ensures.written in
-    let four = behind _ _ _ _ _ _ _ three c.spell-next-at-2.ensures.written in
-    let five = behind _ _ _ _ _ _ _ four c.spell-byte.ensures in
+    let two = behind _ _ _ _ _ _ _ c.spell_text-at.ensures c.spell_layer-at.ensures.written in
+    let three = behind _ _ _ _ _ _ _ two c.spell_next-at.ensures.written in
+    let four = behind _ _ _ _ _ _ _ three c.spell_next-at-2.ensures.written in
+    let five = behind _ _ _ _ _ _ _ four c.spell_byte.ensures in
     record {
       written = same_bytes (regroup (codes "fault ") (layer_word c.args.layer) (codes " ") (spelled c.args.cause) (spelled c.args.place) (10 ∷ [])) five;
       short = omega arith;

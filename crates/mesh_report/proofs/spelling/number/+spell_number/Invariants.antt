@@ -1,4 +1,4 @@
 use Rattle.mesh_report.proofs.spelling.number.+spell_number.Given as goal
 
-abbrev pub decreases-spell-number : goal.decreases-spell-number
-decreases-spell-number l = l.n
+abbrev pub decreases-spell_number : goal.decreases-spell_number
+decreases-spell_number l = l.n

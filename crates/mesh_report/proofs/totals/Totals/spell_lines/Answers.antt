@@ -9,11 +9,11 @@ regroup a b c d e f = simp (append_assoc, append-nil)
 pub returns : goal.returns
 returns c =
     let t = c.args.self.now in
-    let two = behind _ _ _ _ _ _ _ c.spell-vertices-at.ensures.written c.spell-triangles-at.ensures.written in
-    let three = behind _ _ _ _ _ _ _ two c.spell-finalized-at.ensures.written in
-    let four = behind _ _ _ _ _ _ _ three c.spell-width-at.ensures.written in
-    let five = behind _ _ _ _ _ _ _ four c.spell-area-at.ensures.written in
-    let six = behind _ _ _ _ _ _ _ five c.spell-last-line.ensures.written in
+    let two = behind _ _ _ _ _ _ _ c.spell_vertices-at.ensures.written c.spell_triangles-at.ensures.written in
+    let three = behind _ _ _ _ _ _ _ two c.spell_finalized-at.ensures.written in
+    let four = behind _ _ _ _ _ _ _ three c.spell_width-at.ensures.written in
+    let five = behind _ _ _ _ _ _ _ four c.spell_area-at.ensures.written in
+    let six = behind _ _ _ _ _ _ _ five c.spell_last_line.ensures.written in
     record {
       enough = c.requires;
       suffices = omega arith;

@@ -3,8 +3,8 @@ use Rattle.mesh_table.specs.Probing.{size}
 use Rattle.mesh_table.proofs.Writes.{emptied, removed}
 use Rattle.mesh_table.proofs.slots.Slots.remove.Goals as goal
 
-pub close-up-requires : goal.close-up-requires
-close-up-requires g c =
+pub close_up-requires : goal.close_up-requires
+close_up-requires g c =
     let s = c.requires.sound in
     let found = c.in-Found.ensures in
     let e =
@@ -16,10 +16,10 @@ pub returns-in-Found : goal.returns-in-Found
 returns-in-Found g c =
     let s = c.requires.sound in
     let found = c.in-Found.ensures in
-    let us = c.close-up.new.self.array in
+    let us = c.close_up.new.self.array in
     let r =
     removed g.row.N c.args.self.now.array s.long s.distinct c.requires.within.0 s.reached c.put.new.self.array us
-    c.args.key c.in-Found.i found.0 found.1 c.put.ensures c.close-up.ensures.sound c.close-up.ensures.alike in
+    c.args.key c.in-Found.i found.0 found.1 c.put.ensures c.close_up.ensures.sound c.close_up.ensures.alike in
     let value = c.value-old.ensures ∙ sym found.2 in
     record {
       value = value;
