@@ -1,11 +1,21 @@
-# Shared by the benchmarks: the texts, the best of five runs, the peak memory.
+# Shared by the benchmarks: the programs, the texts, the best of five runs, the peak memory.
+
+# build NAME WORD..: proves and builds the program, and runs it once with these arguments
+build() {
+    local name=$1
+    shift
+    (cd "crates/$name" && rt run -- "$@" < /dev/null > /dev/null 2>&1)
+}
+
+program() { echo "crates/$1/out/$1"; }
 
 # makes a small and a large text in a folder that is removed at the end
 texts() {
     work=$(mktemp -d)
     trap 'rm -rf "$work"' EXIT
-    target/bin/grid_text 50 50 1 > "$work/small.txt"
-    target/bin/grid_text 1000 1000 1 > "$work/large.txt"
+    build grid_text 2 2 1
+    "$(program grid_text)" 50 50 1 > "$work/small.txt"
+    "$(program grid_text)" 1000 1000 1 > "$work/large.txt"
 }
 
 # the shortest of five runs over a file as standard input, in microseconds

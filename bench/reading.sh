@@ -4,6 +4,6 @@
 set -eu
 cd "$(dirname "$0")/.."
 . bench/measure.sh
-rt check events grid_text > /dev/null
+build events
 texts
-compare events target/bin/events --count
+compare events "$(program events)" --count

@@ -5,7 +5,8 @@
 set -eu
 cd "$(dirname "$0")/.."
 . bench/measure.sh
-rt check report grid_text table_bench > /dev/null
+build report
+build table_bench
 texts
-compare report target/bin/report
-target/bin/table_bench 34000000
+compare report "$(program report)"
+"$(program table_bench)" 34000000
