@@ -7,7 +7,7 @@ ghost use Rattle.mesh_stream.specs.Meaning.{unclosed, outcome};
 use anyhow::anyhow;
 use mesh_reader::reader::TextReader;
 use mesh_stream::event::Event;
-use mesh_stream::stage::{Answer, Inlet, Stage, Standing};
+use mesh_stream::stage::{Inlet, Stage, Standing};
 use std::io::{BufWriter, Read, Write};
 use std::{env, io};
 
@@ -20,33 +20,32 @@ fn list_events<S: Stage<Item = Event>, W: Write>(
 {
     loop {
         match stage.next() {
-            Answer::Item(event) => listing.take(event)?,
-            Answer::Idle(standing) => return Ok(standing),
+            Ok(event) => listing.take(event)?,
+            Err(standing) => return Ok(standing),
         }
     }
 }
 
-// A line for each event, or only their count.
+// A line for each event, or, where a count is kept, only that.
 #[derive(Drop)]
 struct Listing<W> {
     out: W,
-    count_only: bool,
-    count: u64,
+    count: Option<u64>,
 }
 
 impl<W: Write> Listing<W> {
     fn take(&mut self, event: Event) -> io::Result<()> {
-        self.count = self.count.saturating_add(1);
-        if self.count_only {
-            Ok(())
-        } else {
-            writeln!(self.out, "{event}")
+        match &mut self.count {
+            Some(count) => {
+                *count = count.saturating_add(1);
+                Ok(())
+            }
+            None => writeln!(self.out, "{event}"),
         }
     }
 
     fn end(&mut self, standing: Standing) -> io::Result<()> {
-        if self.count_only {
-            let count = self.count;
+        if let Some(count) = self.count {
             writeln!(self.out, "{count} events")?;
         }
         writeln!(self.out, "{standing}")?;
@@ -86,17 +85,16 @@ fn list_text<R: Read, W: Write>(
 }
 
 fn run(rt: &HostRuntime) -> anyhow::Result<()> {
-    let mut count_only = false;
+    let mut count = None;
     for word in env::args(rt)?.skip(1) {
         if word.as_str() != "--count" {
             return Err(anyhow!("usage: events [--count] < TEXT"));
         }
-        count_only = true;
+        count = Some(0);
     }
     let mut listing = Listing {
         out: BufWriter::new(rt.alloc(), rt.stdout())?,
-        count_only,
-        count: 0,
+        count,
     };
     let standing = list_text(&mut rt.stdin(), &mut listing)?;
     listing.end(standing)?;

@@ -5,19 +5,17 @@ ghost use Rattle.std.specs.Prelude.{◌≡◌, [], OnOk};
 ghost use Rattle.mesh_stream.specs.Meaning.{unclosed};
 
 use mesh_bottoms::grid::Grid;
-use mesh_stream::event::Event;
-use mesh_stream::stage::{Answer, Stage};
+use mesh_stream::event::{Event, Point};
+use mesh_stream::stage::Stage;
 use std::env;
 use std::io::{BufWriter, Write};
 
 fn write_event<W: Write>(out: &mut W, event: Event) -> anyhow::Result<()> {
     match event {
-        Event::Vertex { at, .. } => {
-            let x = at.x;
-            let y = at.y;
-            let z = at.z;
-            writeln!(out, "v {x} {y} {z}")?;
-        }
+        Event::Vertex {
+            at: Point { x, y, z },
+            ..
+        } => writeln!(out, "v {x} {y} {z}")?,
         Event::Triangle { a, b, c, .. } => writeln!(out, "f {a} {b} {c}")?,
         Event::Finalization { vertex, .. } => writeln!(out, "x {vertex}")?,
     }
@@ -28,7 +26,7 @@ fn write_event<W: Write>(out: &mut W, event: Event) -> anyhow::Result<()> {
 fn write_all<S: Stage<Item = Event>, W: Write>(stage: &mut S, out: &mut W) -> anyhow::Result<()>
     ensures { OnOk result ((S.Stage.meaning stage.new [] unclosed).items ≡ []) }
 {
-    while let Answer::Item(event) = stage.next() {
+    while let Ok(event) = stage.next() {
         write_event(out, event)?;
     }
     out.flush()?;
@@ -38,10 +36,8 @@ fn write_all<S: Stage<Item = Event>, W: Write>(stage: &mut S, out: &mut W) -> an
 // The settings on the command line; any that is missing is 0, which no grid allows.
 fn settings(rt: &HostRuntime) -> anyhow::Result<[u32; 3]> {
     let mut settings = [0; 3];
-    for (i, word) in env::args(rt)?.skip(1).take(3).enumerate() {
-        if i < 3 {
-            settings[i] = word.as_str().parse::<u32>()?;
-        }
+    for (setting, word) in settings.iter_mut().zip(env::args(rt)?.skip(1)) {
+        *setting = word.as_str().parse::<u32>()?;
     }
     Ok(settings)
 }

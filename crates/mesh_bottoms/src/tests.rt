@@ -2,7 +2,7 @@ use crate::grid::Grid;
 use crate::list::ListStage;
 use mesh_stream::event::{Event, Point};
 use mesh_stream::fault::Refusal;
-use mesh_stream::stage::{Answer, Stage, Standing};
+use mesh_stream::stage::{Stage, Standing};
 use std::process::Abort;
 use std::test::Fail;
 
@@ -17,10 +17,10 @@ fn vertex(place: u32, number: u32, x: i32, y: i32) -> Event {
 // Takes the events in turn, and then finds the stage at its end, twice.
 fn check_all<S: Stage<Item = Event>>(rt: &impl Abort, stage: &mut S, events: &[Event]) {
     for event in events {
-        assert_eq!(rt; stage.next(), Answer::Item(*event));
+        assert_eq!(rt; stage.next(), Ok(*event));
     }
-    assert_eq!(rt; stage.next(), Answer::Idle(Standing::Ended));
-    assert_eq!(rt; stage.next(), Answer::Idle(Standing::Ended));
+    assert_eq!(rt; stage.next(), Err(Standing::Ended));
+    assert_eq!(rt; stage.next(), Err(Standing::Ended));
 }
 
 #[test]

@@ -1,10 +1,9 @@
 -- A line that was read and dropped.
-use Rattle.std.proofs.Common.{◌≡◌, ℕ, suc, ◌+◌, ◌-◌, ◌≤◌, Bool, true, false, List, length, take, drop, sym, refl, ap, ◌∙◌, add-one, arith, length-drop}
+use Rattle.std.proofs.Common.{◌≡◌, ℕ, suc, ◌+◌, ◌-◌, ◌≤◌, Bool, true, false, List, length, take, drop, Ok, sym, refl, ap, ◌∙◌, add-one, arith, length-drop}
 use Rattle.std.proofs.lemmas.List.{drop-drop, drop-take, length-take}
 use Rattle.mesh_stream.specs.declared.event.Point.{Point}
 use Rattle.mesh_stream.specs.declared.event.Event.{Event}
 use Rattle.mesh_stream.specs.declared.event.Event.TheVariants.{Vertex, Triangle, Finalization}
-use Rattle.mesh_stream.specs.declared.stage.Answer.TheVariants.{Item}
 use Rattle.mesh_stream.specs.Meaning.{Mark, prepend}
 use Rattle.mesh_stream.specs.Calls.{SameKind}
 use Rattle.mesh_reader.specs.declared.content.LineContent.{LineContent}
@@ -82,7 +81,7 @@ module _ (r s : TextReader) (line : Scanned LineContent) (moved : Moved r s line
     shorter = let k = ap length kept_moved in let d = length-drop line.at (kept r) in let a = front.some in let b = front.inside in omega arith;
   }
 
-  pub handed_over : (e : Event) → in_time r.line line.found ≡ Gives e → s.vertex ≡ vertex_after r.vertex e → Answered r (Item e) s
+  pub handed_over : (e : Event) → in_time r.line line.found ≡ Gives e → s.vertex ≡ vertex_after r.vertex e → Answered r (Ok e) s
   handed_over e g v = record {
     by_rule = record { first = λ t m. reads (Gives e) g t m ∙ ap (prepend e) (sym (means_moved (vertex_after r.vertex e) v t m)); port_kept = port_moved };
     left = kept_moved ∙ sym (left (Gives e) g);

@@ -2,7 +2,7 @@
 use Rattle.std.specs.Prelude.{◌≡◌, ℕ, suc, ◌-◌, ◌<◌, ◌≤◌, Bool, true, false, List, [], ◌++◌, length, drop, Some, None, Option, ◌≢◌, refl}
 use Rattle.std.proofs.Common.{sym, ap, subst, ◌∙◌, append-nil, append_assoc, arith}
 use Rattle.mesh_stream.specs.declared.event.Event.{Event}
-use Rattle.mesh_stream.specs.Meaning.{Mark, unclosed, closed, outcome, Meaning, Port, open_for, shut, Begins, Lawful}
+use Rattle.mesh_stream.specs.Meaning.{Mark, unclosed, closed, outcome, Meaning, Port, open_for, shut, TakesText, Begins, Lawful}
 use Rattle.mesh_reader.specs.declared.content.LineContent.{LineContent}
 use Rattle.mesh_reader.specs.declared.scan.Scanned.{Scanned}
 use Rattle.mesh_reader.specs.Reading.{reading_from, and_on, at_end, in_time, after_line, unread}
@@ -41,6 +41,10 @@ keeping_lawful false place vertex kept = record {
   where
     never : (n : ℕ) → open_for n ≢ shut
     never n e = let z : ◌≡◌ {A = ℕ} 0 1 = cc in omega arith
+
+pub keeping_takes_text : (c : Bool) (kept : List ℕ) → TakesText (keeping_port c kept)
+keeping_takes_text true kept = tt
+keeping_takes_text false kept = tt
 
 -- The line at the front takes up so many bytes and holds this; once it is taken, the rest of the text is read.
 pub record FrontLine (c : Bool) (place vertex : ℕ) (kept : List ℕ) (line : Scanned LineContent) : Type 0 where

@@ -4,12 +4,12 @@ use Rattle.std.specs.List.{between}
 use Rattle.mesh_stream.specs.declared.event.Event.{Event}
 use Rattle.mesh_stream.specs.declared.fault.Refusal.{Refusal}
 use Rattle.mesh_stream.specs.declared.fault.Refusal.TheVariants.{InletClosed}
-use Rattle.mesh_stream.specs.declared.stage.Answer.{Answer}
-use Rattle.mesh_stream.specs.Meaning.{Meaning, Port, Same, Lawful}
+use Rattle.mesh_stream.specs.declared.stage.Standing.{Standing}
+use Rattle.mesh_stream.specs.Meaning.{Meaning, Port, TakesText, Same, Lawful}
 use Rattle.mesh_stream.specs.Calls.{SameKind, Nexted}
 use Rattle.mesh_reader.specs.declared.reader.TextReader.{TextReader}
 use Rattle.mesh_reader.specs.Reading.{unread}
-use Rattle.mesh_reader.specs.Keeping.{keeping, keeping_port, keeping_lawful, mark_at}
+use Rattle.mesh_reader.specs.Keeping.{keeping, keeping_port, keeping_lawful, keeping_takes_text, mark_at}
 
 -- the bytes that it took and has not read yet
 abbrev pub kept : TextReader → List ℕ
@@ -24,6 +24,9 @@ reader_port r = keeping_port r.closed (kept r)
 pub reader_lawful : (r : TextReader) → Lawful (reader_port r) (reader_means r)
 reader_lawful r = keeping_lawful r.closed r.line r.vertex (kept r)
 
+pub reader_takes_text : (r : TextReader) → TakesText (reader_port r)
+reader_takes_text r = keeping_takes_text r.closed (kept r)
+
 -- what it will keep after one next
 abbrev pub leaves : TextReader → List ℕ
 leaves r = unread (mark_at r.closed) r.line r.vertex (kept r)
@@ -36,11 +39,11 @@ pub record Dropped (r s : TextReader) : Type 0 where
   pub shorter : length (kept s) < length (kept r)
 
 -- next answered this.
-pub record Answered (r : TextReader) (a : Answer Event) (s : TextReader) : Type 0 where
+pub record Answered (r : TextReader) (a : Result Event Standing) (s : TextReader) : Type 0 where
   pub by_rule : Nexted (reader_port r) (reader_means r) a (reader_port s) (reader_means s)
   pub left : kept s ≡ leaves r
 
-abbrev pub LineTaken : TextReader → Option (Answer Event) → TextReader → Type 0
+abbrev pub LineTaken : TextReader → Option (Result Event Standing) → TextReader → Type 0
 LineTaken r None s = Dropped r s
 LineTaken r (Some a) s = Answered r a s
 

@@ -1,6 +1,5 @@
 -- What is left after a list of calls on any stage that keeps the law.
 use Rattle.std.proofs.Common.{◌≡◌, ℕ, ◌⊎◌, List, [], ◌∷◌, ◌++◌, take, Ok, Err, sym, refl, ap, ◌∙◌, inl, inr, append_assoc, append-nil, arith}
-use Rattle.mesh_stream.specs.declared.stage.Answer.TheVariants.{Item, Idle}
 use Rattle.mesh_stream.specs.Meaning.{Mark, unclosed, closed, Port, textless, open_for, shut, Open, Outcome, outcome, prepend, Fixed, Lawful}
 use Rattle.mesh_stream.specs.Calls.{SameKind}
 use Rattle.mesh_stream.specs.Runs.{View, Call, feeds, closes, asks, Step, Run, taken, handed, mark_of, prepends, Left}
@@ -32,8 +31,8 @@ module _ {I : Type 0} where
   step_shut v w (feeds piece (Err x)) s e = s.port_same ∙ e
   step_shut v w (closes (Ok k)) s e = s.now_shut
   step_shut v w (closes (Err x)) s e = s.port_same ∙ e
-  step_shut v w (asks (Item i)) s e = kind_shut v.port w.port s.port_kept e
-  step_shut v w (asks (Idle x)) s e = kind_shut v.port w.port s.port_kept e
+  step_shut v w (asks (Ok i)) s e = kind_shut v.port w.port s.port_kept e
+  step_shut v w (asks (Err x)) s e = kind_shut v.port w.port s.port_kept e
 
   run_shut : (cs : List (Call I)) (v w : View I) → Run v cs w → v.port ≡ shut → w.port ≡ shut
   run_shut [] v w r e = ap (λ (z : View I). z.port) r ∙ e
@@ -47,8 +46,8 @@ module _ {I : Type 0} where
   left_open (feeds piece (Err x) ∷ cs) v w (u, s, r) n t m = absurd (n (run_shut cs u w r (s.port_same ∙ s.was_shut)))
   left_open (closes (Ok k) ∷ cs) v w (u, s, r) n t m = absurd (n (run_shut cs u w r s.now_shut))
   left_open (closes (Err x) ∷ cs) v w (u, s, r) n t m = absurd (n (run_shut cs u w r (s.port_same ∙ s.was_shut)))
-  left_open (asks (Item i) ∷ cs) v w (u, s, r) n t m = s.first (taken cs ++ t) m ∙ ap (prepend i) (left_open cs u w r n t m)
-  left_open (asks (Idle x) ∷ cs) v w (u, s, r) n t m = sym (s.same (taken cs ++ t) m) ∙ left_open cs u w r n t m
+  left_open (asks (Ok i) ∷ cs) v w (u, s, r) n t m = s.first (taken cs ++ t) m ∙ ap (prepend i) (left_open cs u w r n t m)
+  left_open (asks (Err x) ∷ cs) v w (u, s, r) n t m = sym (s.same (taken cs ++ t) m) ∙ left_open cs u w r n t m
 
   -- A closed stage heeds no text, and that stays so.
   abbrev FixedIf : View I → Type 0
@@ -67,9 +66,9 @@ module _ {I : Type 0} where
   step_fixed v w (feeds piece (Err x)) s f e t m = s.same t m ∙ f s.was_shut t m ∙ sym (s.same [] unclosed)
   step_fixed v w (closes (Ok k)) s f e t m = s.final t m ∙ sym (s.final [] unclosed)
   step_fixed v w (closes (Err x)) s f e t m = s.same t m ∙ f s.was_shut t m ∙ sym (s.same [] unclosed)
-  step_fixed v w (asks (Item i)) s f e t m =
+  step_fixed v w (asks (Ok i)) s f e t m =
       behind_item i (w.means t m) (w.means [] unclosed) (sym (s.first t m) ∙ f (was_shut v.port w.port s.port_kept e) t m ∙ s.first [] unclosed)
-  step_fixed v w (asks (Idle x)) s f e t m = s.same t m ∙ f (was_shut v.port w.port s.port_kept e) t m ∙ sym (s.same [] unclosed)
+  step_fixed v w (asks (Err x)) s f e t m = s.same t m ∙ f (was_shut v.port w.port s.port_kept e) t m ∙ sym (s.same [] unclosed)
 
   shut_takes : (cs : List (Call I)) (v w : View I) → Run v cs w → v.port ≡ shut → taken cs ≡ []
   shut_takes [] v w r e = refl
@@ -85,8 +84,8 @@ module _ {I : Type 0} where
   left_shut (closes (Ok k) ∷ cs) v w (u, s, r) f e =
       ap (λ (z : List ℕ). v.means z closed) (shut_takes cs u w r s.now_shut) ∙ sym (s.final (taken cs) closed) ∙ left_shut cs u w r (step_fixed v u (closes (Ok k)) s f) e
   left_shut (closes (Err x) ∷ cs) v w (u, s, r) f e = sym (s.same (taken cs) closed) ∙ left_shut cs u w r (step_fixed v u (closes (Err x)) s f) e
-  left_shut (asks (Item i) ∷ cs) v w (u, s, r) f e = s.first (taken cs) closed ∙ ap (prepend i) (left_shut cs u w r (step_fixed v u (asks (Item i)) s f) e)
-  left_shut (asks (Idle x) ∷ cs) v w (u, s, r) f e = sym (s.same (taken cs) closed) ∙ left_shut cs u w r (step_fixed v u (asks (Idle x)) s f) e
+  left_shut (asks (Ok i) ∷ cs) v w (u, s, r) f e = s.first (taken cs) closed ∙ ap (prepend i) (left_shut cs u w r (step_fixed v u (asks (Ok i)) s f) e)
+  left_shut (asks (Err x) ∷ cs) v w (u, s, r) f e = sym (s.same (taken cs) closed) ∙ left_shut cs u w r (step_fixed v u (asks (Err x)) s f) e
 
   pub left : (cs : List (Call I)) (v w : View I) → Lawful v.port v.means → Run v cs w → Left v.means cs w
   left cs v w l r = record { now_left = at (shut_or_not w.port); still_left = left_open cs v w r }

@@ -3,8 +3,6 @@ use Rattle.std.specs.Prelude.{◌≡◌, ℕ, ◌≤◌, min, List, [], ◌++◌
 use Rattle.mesh_stream.specs.declared.fault.Refusal.{Refusal}
 use Rattle.mesh_stream.specs.declared.fault.Refusal.TheVariants.{InletClosed}
 use Rattle.mesh_stream.specs.declared.stage.Standing.{Standing}
-use Rattle.mesh_stream.specs.declared.stage.Answer.{Answer}
-use Rattle.mesh_stream.specs.declared.stage.Answer.TheVariants.{Item, Idle}
 use Rattle.mesh_stream.specs.Numbers.{refusal_number}
 use Rattle.mesh_stream.specs.Meaning.{Mark, unclosed, closed, outcome, prepend, Meaning, Port, textless, open_for, shut, room, Open, IsWaiting, Same}
 
@@ -33,9 +31,9 @@ module _ {I : Type 0} (p : Port) (G : Meaning I) where
     pub port_kept : SameKind p q
     pub roomy : IsWaiting s → Roomy q
 
-  abbrev pub Nexted : Answer I → Port → Meaning I → Type 0
-  Nexted (Item i) q H = HandsOver i q H
-  Nexted (Idle s) q H = Idles s q H
+  abbrev pub Nexted : Result I Standing → Port → Meaning I → Type 0
+  Nexted (Ok i) q H = HandsOver i q H
+  Nexted (Err s) q H = Idles s q H
 
   -- Refused for being closed: nothing changed.
   pub record Refused (e : Refusal) (q : Port) (H : Meaning I) : Type 0 where

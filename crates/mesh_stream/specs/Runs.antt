@@ -1,8 +1,7 @@
 -- Lists of calls on a stage, and what they leave.
 use Rattle.std.specs.Prelude.{◌≡◌, ℕ, List, [], ◌∷◌, ◌++◌, take, Ok, Err, Result, ◌≢◌}
 use Rattle.mesh_stream.specs.declared.fault.Refusal.{Refusal}
-use Rattle.mesh_stream.specs.declared.stage.Answer.{Answer}
-use Rattle.mesh_stream.specs.declared.stage.Answer.TheVariants.{Item, Idle}
+use Rattle.mesh_stream.specs.declared.stage.Standing.{Standing}
 use Rattle.mesh_stream.specs.Meaning.{Mark, unclosed, closed, Port, textless, open_for, shut, Outcome, outcome, Meaning}
 use Rattle.mesh_stream.specs.Calls.{Nexted, Fed, Closed}
 
@@ -18,7 +17,7 @@ viewed p g = record { port = p; means = g }
 pub data Call (I : Type 0) : Type 0 where
   feeds : List ℕ → Result ℕ Refusal → Call I
   closes : Result (Unit {0}) Refusal → Call I
-  asks : Answer I → Call I
+  asks : Result I Standing → Call I
 
 abbrev pub Step : {I : Type 0} → View I → Call I → View I → Type 0
 Step v (feeds piece r) w = Fed v.port v.means piece r w.port w.means
@@ -43,8 +42,8 @@ abbrev pub handed : {I : Type 0} → List (Call I) → List I
 handed [] = []
 handed (feeds piece r ∷ cs) = handed cs
 handed (closes r ∷ cs) = handed cs
-handed (asks (Item i) ∷ cs) = i ∷ handed cs
-handed (asks (Idle s) ∷ cs) = handed cs
+handed (asks (Ok i) ∷ cs) = i ∷ handed cs
+handed (asks (Err s) ∷ cs) = handed cs
 
 abbrev pub mark_of : Port → Mark
 mark_of textless = unclosed

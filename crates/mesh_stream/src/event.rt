@@ -26,9 +26,9 @@ impl Event {
         ensures { result ≡ place_of self.now }
     {
         match self {
-            Event::Vertex { place, .. } => *place,
-            Event::Triangle { place, .. } => *place,
-            Event::Finalization { place, .. } => *place,
+            Event::Vertex { place, .. }
+            | Event::Triangle { place, .. }
+            | Event::Finalization { place, .. } => *place,
         }
     }
 

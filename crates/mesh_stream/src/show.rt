@@ -2,7 +2,7 @@
 ghost use Rattle.std.specs.Prelude.{Some as Known};
 ghost use Rattle.mesh_stream.specs.Shown.{event_text, fault_text, refusal_text, standing_text};
 
-use crate::event::Event;
+use crate::event::{Event, Point};
 use crate::fault::{Fault, Refusal};
 use crate::stage::Standing;
 use std::error::Error;
@@ -13,12 +13,11 @@ impl fmt::Display for Event {
 
     fn fmt<W: fmt::Write>(&self, f: &mut fmt::Formatter<W>) -> fmt::Result {
         match *self {
-            Event::Vertex { place, number, at } => {
-                let x = at.x;
-                let y = at.y;
-                let z = at.z;
-                write!(f, "v {number} {x} {y} {z} @{place}")
-            }
+            Event::Vertex {
+                place,
+                number,
+                at: Point { x, y, z },
+            } => write!(f, "v {number} {x} {y} {z} @{place}"),
             Event::Triangle { place, a, b, c } => write!(f, "f {a} {b} {c} @{place}"),
             Event::Finalization { place, vertex } => write!(f, "x {vertex} @{place}"),
         }

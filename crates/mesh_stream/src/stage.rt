@@ -12,13 +12,6 @@ pub enum Standing {
     Faulty(Fault),
 }
 
-// What next answers: the next item, or that there is none now and how the stage stands.
-#[derive(Clone, Copy, PartialEq, Eq, Debug)]
-pub enum Answer<T> {
-    Item(T),
-    Idle(Standing),
-}
-
 // A stage hands over items of one kind, one by one.
 pub trait Stage {
     type Item;
@@ -32,14 +25,15 @@ pub trait Stage {
     // What every stage keeps.
     ghost lawful: { (s : Self) → Lawful (port s) (meaning s) };
 
-    fn next(&mut self) -> Answer<Self::Item>
+    // Answers the next item, or, where there is none now, how the stage stands.
+    fn next(&mut self) -> Result<Self::Item, Standing>
         ensures { Nexted (port self.old) (meaning self.old) result (port self.new) (meaning self.new) };
 }
 
 // An inlet is a stage that also takes text. It is open until it is closed, and its room is how many bytes it takes now.
 pub trait Inlet: Stage {
     fn room(&self) -> usize
-        ensures { (result ≡ room (Self.Stage.port self.now)) × TakesText (Self.Stage.port self.now) };
+        ensures { result ≡ room (Self.Stage.port self.now) };
 
     // Takes as much of the front of the piece as there is room for, and answers how many bytes that is.
     fn feed(&mut self, piece: &[u8]) -> Result<usize, Refusal>
@@ -48,4 +42,7 @@ pub trait Inlet: Stage {
     // Says that no more text comes.
     fn close(&mut self) -> Result<(), Refusal>
         ensures { Closed (Self.Stage.port self.old) (Self.Stage.meaning self.old) result (Self.Stage.port self.new) (Self.Stage.meaning self.new) };
+
+    // Every inlet takes text, even a closed one.
+    ghost takes_text: { (s : Self) → TakesText (Self.Stage.port s) };
 }

@@ -1,7 +1,7 @@
 use crate::readers::*;
 use mesh_reader::reader::TextReader;
 use mesh_stream::fault::{Cause, Refusal};
-use mesh_stream::stage::{Answer, Inlet, Stage, Standing};
+use mesh_stream::stage::{Inlet, Stage, Standing};
 use std::process::Abort;
 use std::test::Fail;
 
@@ -17,7 +17,7 @@ fn a_closed_reader(rt: HostRuntime) -> Result<(), Fail> {
     assert_eq!(rt; Refusal::InletClosed.number(), 1);
     let mut reader = closed_with(&rt, b"x 1\nx 2")?;
     check_refuses(&rt, &mut reader);
-    assert_eq!(rt; reader.next(), Answer::Item(finalization(1, 1)));
+    assert_eq!(rt; reader.next(), Ok(finalization(1, 1)));
     check_refuses(&rt, &mut reader);
     check_gives(&rt, &mut reader, &[finalization(2, 2)], Standing::Ended);
     check_refuses(&rt, &mut reader);
@@ -32,7 +32,7 @@ fn the_room(rt: HostRuntime) -> Result<(), Fail> {
     assert_eq!(rt; reader.feed(b"")?, 0);
     assert_eq!(rt; reader.feed(b"x 1\n\nx 2")?, 8);
     assert_eq!(rt; reader.room(), 4088);
-    assert_eq!(rt; reader.next(), Answer::Item(finalization(1, 1)));
+    assert_eq!(rt; reader.next(), Ok(finalization(1, 1)));
     assert_eq!(rt; reader.room(), 4092);
     check_gives(&rt, &mut reader, &[], Standing::Waiting);
     assert_eq!(rt; reader.room(), 4093);

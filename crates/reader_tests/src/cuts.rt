@@ -3,7 +3,7 @@ use crate::readers::*;
 use mesh_reader::reader::TextReader;
 use mesh_stream::event::Event;
 use mesh_stream::fault::Cause;
-use mesh_stream::stage::{Answer, Inlet, Stage, Standing};
+use mesh_stream::stage::{Inlet, Stage, Standing};
 use std::alloc::Global;
 use std::process::Abort;
 use std::test::Fail;
@@ -19,8 +19,8 @@ struct Reading {
 fn drain(reader: &mut TextReader, events: &mut Vec<Event>) -> Result<Standing, Fail> {
     for _ in 0..100 {
         match reader.next() {
-            Answer::Item(event) => events.push(event)?,
-            Answer::Idle(standing) => return Ok(standing),
+            Ok(event) => events.push(event)?,
+            Err(standing) => return Ok(standing),
         }
     }
     Err(Fail::new("more than 100 events"))

@@ -2,7 +2,7 @@
 use mesh_reader::reader::TextReader;
 use mesh_stream::event::{Event, Point};
 use mesh_stream::fault::{Cause, Fault, LayerName};
-use mesh_stream::stage::{Answer, Inlet, Stage, Standing};
+use mesh_stream::stage::{Inlet, Stage, Standing};
 use std::process::Abort;
 use std::test::Fail;
 
@@ -23,10 +23,10 @@ pub fn closed_with(rt: &impl Abort, text: &[u8]) -> Result<TextReader, Fail> {
 // Takes the events in turn, and then finds the reader standing so, twice.
 pub fn check_gives(rt: &impl Abort, reader: &mut TextReader, events: &[Event], standing: Standing) {
     for event in events {
-        assert_eq!(rt; reader.next(), Answer::Item(*event));
+        assert_eq!(rt; reader.next(), Ok(*event));
     }
-    assert_eq!(rt; reader.next(), Answer::Idle(standing));
-    assert_eq!(rt; reader.next(), Answer::Idle(standing));
+    assert_eq!(rt; reader.next(), Err(standing));
+    assert_eq!(rt; reader.next(), Err(standing));
 }
 
 pub fn vertex(place: u32, number: u32, x: i32, y: i32, z: i32) -> Event {

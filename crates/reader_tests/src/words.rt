@@ -1,13 +1,13 @@
 use crate::readers::*;
 use mesh_stream::event::Event;
 use mesh_stream::fault::Cause;
-use mesh_stream::stage::{Answer, Stage, Standing};
+use mesh_stream::stage::{Stage, Standing};
 use std::process::Abort;
 use std::test::Fail;
 
 // Each text is one line, and all are at fault for the same cause.
 fn check_faults(rt: &impl Abort, texts: &[&[u8]], cause: Cause) -> Result<(), Fail> {
-    let fault: Answer<Event> = Answer::Idle(faulty(cause, 1));
+    let fault: Result<Event, Standing> = Err(faulty(cause, 1));
     for (index, text) in texts.iter().enumerate() {
         let mut reader = closed_with(rt, text)?;
         assert_eq!(rt; reader.next(), fault, "text {}", index);

@@ -5,7 +5,7 @@ use mesh_report::report::Report;
 use mesh_report::totals::Totals;
 use mesh_stream::event::Event;
 use mesh_stream::fault::Cause;
-use mesh_stream::stage::{Answer, Stage, Standing};
+use mesh_stream::stage::{Stage, Standing};
 use std::process::Abort;
 
 // A square of two triangles, whose corners turn to the left. At most three of its vertices are live at once.
@@ -84,7 +84,7 @@ fn check_takes_nothing(rt: &impl Abort, report: &mut Report) {
     assert_eq!(rt; report.run(&mut stage, 5), 0);
     report.run_out(&mut stage);
     check_report(rt, report, totals, standing);
-    assert_eq!(rt; stage.next(), Answer::Item(vertex(50).placed_at(1)));
+    assert_eq!(rt; stage.next(), Ok(vertex(50).placed_at(1)));
 }
 
 #[test]
@@ -112,8 +112,8 @@ fn a_fault(rt: HostRuntime) {
     check_report(&rt, &report, totals, faulty(Cause::NotLive, 2));
     check_takes_nothing(&rt, &mut report);
     assert_eq!(rt; report.run(&mut stage, 4), 0);
-    assert_eq!(rt; stage.next(), Answer::Item(finalization(1).placed_at(3)));
-    assert_eq!(rt; stage.next(), Answer::Item(vertex(3).placed_at(4)));
+    assert_eq!(rt; stage.next(), Ok(finalization(1).placed_at(3)));
+    assert_eq!(rt; stage.next(), Ok(vertex(3).placed_at(4)));
 }
 
 // The corners of both triangles turn to the right.

@@ -4,7 +4,7 @@ ghost use Rattle.mesh_bottoms.specs.Steps.{outcome_of};
 
 use crate::grid::Grid;
 use mesh_stream::event::Event;
-use mesh_stream::stage::{Answer, Stage, Standing};
+use mesh_stream::stage::{Stage, Standing};
 
 impl Stage for Grid {
     type Item = Event;
@@ -15,12 +15,12 @@ impl Stage for Grid {
 
     ghost lawful = { λ g. ended_lawful (outcome_of g).items };
 
-    fn next(&mut self) -> Answer<Event> {
+    fn next(&mut self) -> Result<Event, Standing> {
         if self.row >= self.rows {
-            return Answer::Idle(Standing::Ended);
+            return Err(Standing::Ended);
         }
         let event = self.event();
         self.advance();
-        Answer::Item(event)
+        Ok(event)
     }
 }

@@ -4,7 +4,7 @@ ghost use Rattle.mesh_bottoms.specs.Fixed.{ended_lawful};
 
 use crate::list::ListStage;
 use mesh_stream::event::Event;
-use mesh_stream::stage::{Answer, Stage, Standing};
+use mesh_stream::stage::{Stage, Standing};
 
 impl Stage for ListStage<'_> {
     type Item = Event;
@@ -15,12 +15,12 @@ impl Stage for ListStage<'_> {
 
     ghost lawful = { λ l. ended_lawful (listed_from l.given l.records.now).items };
 
-    fn next(&mut self) -> Answer<Event> {
+    fn next(&mut self) -> Result<Event, Standing> {
         if self.is_done() {
-            return Answer::Idle(Standing::Ended);
+            return Err(Standing::Ended);
         }
         let event = self.records[self.given as usize].placed_at(self.place());
         self.given += 1;
-        Answer::Item(event)
+        Ok(event)
     }
 }

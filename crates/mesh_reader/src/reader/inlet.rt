@@ -1,5 +1,5 @@
 ghost use Rattle.std.specs.Prelude.{◌≡◌, ◌-◌, ◌≤◌, min, length};
-ghost use Rattle.mesh_reader.specs.Readers.{kept, leaves, reader_means, reader_port, reader_lawful, LineTaken, SameBut, OpenOr, kept_fed};
+ghost use Rattle.mesh_reader.specs.Readers.{kept, leaves, reader_means, reader_port, reader_lawful, reader_takes_text, LineTaken, SameBut, OpenOr, kept_fed};
 ghost use Rattle.mesh_stream.specs.Calls.{Nexted, Fed, Closed};
 
 use super::{CAPACITY, TextReader};
@@ -7,11 +7,11 @@ use crate::content::LineContent;
 use crate::line::{front_line, in_time};
 use mesh_stream::event::Event;
 use mesh_stream::fault::{Fault, LayerName, Refusal};
-use mesh_stream::stage::{Answer, Inlet, Stage, Standing};
+use mesh_stream::stage::{Inlet, Stage, Standing};
 
 impl TextReader {
     // Reads the line at the front, and drops it if it is complete and not at fault. None where it held no event.
-    fn take_line(&mut self) -> Option<Answer<Event>>
+    fn take_line(&mut self) -> Option<Result<Event, Standing>>
         ensures { LineTaken self.old result self.new }
     {
         let Some(line) = front_line(
@@ -20,7 +20,7 @@ impl TextReader {
             self.line,
             self.vertex,
         ) else {
-            return Some(Answer::Idle(if self.closed {
+            return Some(Err(if self.closed {
                 Standing::Ended
             } else {
                 Standing::Waiting
@@ -33,7 +33,7 @@ impl TextReader {
                     cause,
                     place: self.line,
                 };
-                Some(Answer::Idle(Standing::Faulty(fault)))
+                Some(Err(Standing::Faulty(fault)))
             }
             LineContent::Nothing => {
                 self.start += line.at;
@@ -46,7 +46,7 @@ impl TextReader {
                 if let Event::Vertex { .. } = event {
                     self.vertex += 1;
                 }
-                Some(Answer::Item(event))
+                Some(Ok(event))
             }
         }
     }
@@ -107,7 +107,7 @@ impl Stage for TextReader {
 
     ghost lawful = { reader_lawful };
 
-    fn next(&mut self) -> Answer<Event>
+    fn next(&mut self) -> Result<Event, Standing>
         ensures rule { Nexted (reader_port self.old) (reader_means self.old) result (reader_port self.new) (reader_means self.new) }
         ensures left { kept self.new ≡ leaves self.old }
     {
@@ -120,6 +120,8 @@ impl Stage for TextReader {
 }
 
 impl Inlet for TextReader {
+    ghost takes_text = { reader_takes_text };
+
     fn room(&self) -> usize {
         if self.closed { 0 } else { self.free() }
     }

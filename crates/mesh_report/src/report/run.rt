@@ -3,7 +3,7 @@ ghost use Rattle.mesh_report.specs.Reporting.{Asked, RanFrom, RanOutFrom};
 use crate::report::Report;
 use mesh_stream::event::Event;
 use mesh_stream::fault::{Fault, LayerName};
-use mesh_stream::stage::{Answer, Stage, Standing};
+use mesh_stream::stage::{Stage, Standing};
 
 impl Report {
     // Takes the next event of the stage, and says whether it did. Where there is none it stands as the stage does, and where the
@@ -12,7 +12,7 @@ impl Report {
         ensures { Asked self.old self.new (S.Stage.port stage.old) (S.Stage.meaning stage.old) (S.Stage.port stage.new) (S.Stage.meaning stage.new) result }
     {
         match stage.next() {
-            Answer::Item(event) => match self.take(event) {
+            Ok(event) => match self.take(event) {
                 Ok(()) => true,
                 Err(cause) => {
                     self.standing = Standing::Faulty(Fault {
@@ -23,7 +23,7 @@ impl Report {
                     false
                 }
             },
-            Answer::Idle(below) => {
+            Err(below) => {
                 self.standing = self.judge.stand(LayerName::Report, below);
                 false
             }
