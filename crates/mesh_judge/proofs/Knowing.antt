@@ -1,6 +1,7 @@
 -- A window that knows a list of accepted events judges as the list does, and knows the list with one event more.
 use Rattle.std.proofs.Common.{◌≡◌, ℕ, zero, suc, ◌+◌, ◌-◌, ◌<◌, ◌≤◌, min, max, Bool, true, false, cond, not, ◌&&◌, ◌||◌, eqb, ltb, leb, ◌⊎◌, List, [], ◌∷◌, ◌++◌, length, Some, None, filter, Option, sym, refl, ap, ◌∙◌, subst, inl, inr, append_assoc, append-nil, arith, length-append}
-use Rattle.std.proofs.lemmas.Bool.{both_ways, ltb-true, lt-ltb, ltb-false, le-ltb, leb-true, leb-false, and_parts, eqb-true, eq-eqb, or_cases, or_right, or_parts, not-true}
+use Rattle.std.proofs.lemmas.Bool.{both_ways, ltb-true, lt-ltb, ltb-false, le-ltb, leb-true, leb-false, and_parts, eqb-true, eq-eqb, or_cases, or_right, or_parts, not-true, false_from_ne_true}
+use Rattle.std.proofs.lemmas.List.Folds.{list_any-append}
 use Rattle.mesh_stream.specs.declared.event.Point.{Point}
 use Rattle.mesh_stream.specs.declared.event.Event.{Event}
 use Rattle.mesh_stream.specs.declared.event.Event.TheVariants.{Vertex, Triangle, Finalization}
@@ -13,9 +14,9 @@ use Rattle.mesh_stream.specs.Lists.{has, above_all}
 use Rattle.mesh_stream.specs.Events.{introduced, finalized, point, birthplace}
 use Rattle.mesh_stream.specs.Live.{live, is_live}
 use Rattle.mesh_stream.specs.Ranges.{in_space, vertex_number}
-use Rattle.mesh_stream.proofs.Having.{kept_yes, kept_no, has-++, has_self, has_kept, has_kept_passes, not_has_nil, above_not_has}
+use Rattle.mesh_stream.proofs.Having.{kept_yes, kept_no, has_self, has_filter, not_has_nil, above_not_has}
 use Rattle.mesh_stream.proofs.Views.{introduced_v, introduced_t, introduced_f, triangles_v, triangles_t, triangles_f}
-use Rattle.mesh_stream.proofs.Distinct.{Distinct, distinct_kept, not_true_false, eqb_comm}
+use Rattle.mesh_stream.proofs.Distinct.{Distinct, distinct_kept, eqb_comm}
 use Rattle.mesh_judge.specs.declared.live.Live.{Live}
 use Rattle.mesh_judge.specs.Accepting.{Rules, unless, refusal, AcceptedAfter, fault, lowest, end_with, stands_over}
 use Rattle.mesh_judge.specs.Windows.{Window, fresh, there, refuses, enters, counted, leaves, or_next, first, end_by, ending, Origin, origin, origin_by, origin_in, largest, Knows}
@@ -171,7 +172,7 @@ module _ {T : Type 0} (limit : ℕ) (w : Window T) (es : List Event) (k : Knows 
       bound = subst (λ (z : ℕ). lowest n ns ≤ z) (sym k.highest) (largest_above (introduced es) (lowest n ns) (live_introduced es (lowest n ns) alive))
 
       none : (q : ℕ) → q < lowest n ns → w.at q ≡ None
-      none q l = at_dead q (not_true_false (is_live es q) (λ h. low (or_cases (eqb q n) (has q ns) (sym (ap (has q) e) ∙ h))))
+      none q l = at_dead q (false_from_ne_true (is_live es q) (λ h. low (or_cases (eqb q n) (has q ns) (sym (ap (has q) e) ∙ h))))
         where
           low : (eqb q n ≡ true) ⊎ (has q ns ≡ true) → ⊥
           low (inl x) = let y = eqb-true q n x in let z = (lowest_least n ns).0 in omega arith
@@ -278,7 +279,7 @@ module _ {T : Type 0} (limit : ℕ) (w : Window T) (es : List Event) (k : Knows 
       top = let l : largest (introduced es) < n = ltb-true _ _ (sym (above_largest n (introduced es) (at_least_one n x.at ok.in_range)) ∙ ok.above) in omega arith
 
       new_live : is_live (es ++ (Vertex x.place n x.at ∷ [])) n ≡ true
-      new_live = ap (has n) (live_vertex es x.place n x.at unborn) ∙ has-++ n (live es) (n ∷ []) ∙ or_right (has n (live es)) _ (has_self n [])
+      new_live = ap (has n) (live_vertex es x.place n x.at unborn) ∙ list_any-append (eqb n) (live es) (n ∷ []) ∙ or_right (has n (live es)) _ (has_self n [])
 
       mine : Some (record { place = x.place; point = x.at }) ≡ origin_in (es ++ (Vertex x.place n x.at ∷ [])) n
       mine =
@@ -286,7 +287,7 @@ module _ {T : Type 0} (limit : ℕ) (w : Window T) (es : List Event) (k : Knows 
           ∙ ap (λ b. cond b (Some (origin_by (es ++ (Vertex x.place n x.at ∷ [])) n)) None) (sym new_live)
 
       other_live : (m : ℕ) → eqb m n ≡ false → is_live (es ++ (Vertex x.place n x.at ∷ [])) m ≡ is_live es m
-      other_live m q = ap (has m) (live_vertex es x.place n x.at unborn) ∙ has-++ m (live es) (n ∷ []) ∙ ap (λ b. has m (live es) || (b || false)) q ∙ none (has m (live es))
+      other_live m q = ap (has m) (live_vertex es x.place n x.at unborn) ∙ list_any-append (eqb m) (live es) (n ∷ []) ∙ ap (λ b. has m (live es) || (b || false)) q ∙ none (has m (live es))
         where
           none : (b : Bool) → (b || false) ≡ b
           none true = refl
@@ -320,11 +321,14 @@ module _ {T : Type 0} (limit : ℕ) (w : Window T) (es : List Event) (k : Knows 
           let q : length (live (es ++ (Finalization p i ∷ []))) ≡ length (filter (λ m. not (eqb m i)) (live es)) = ap length (live_final es p i) in
           omega (arith, k.live_count)
 
+      left_live : (m : ℕ) → is_live (es ++ (Finalization p i ∷ [])) m ≡ (not (eqb m i) && is_live es m)
+      left_live m = ap (has m) (live_final es p i) ∙ has_filter (λ n. not (eqb n i)) m (live es)
+
       gone : (m : ℕ) → eqb m i ≡ true → is_live (es ++ (Finalization p i ∷ [])) m ≡ false
-      gone m q = not_true_false _ (λ u. both_ways (eqb m i) (not-true (eqb m i) (has_kept_passes (λ n. not (eqb n i)) m (live es) (sym (ap (has m) (live_final es p i)) ∙ u))) q)
+      gone m q = left_live m ∙ ap (λ b. not b && is_live es m) q
 
       other_live : (m : ℕ) → eqb m i ≡ false → is_live (es ++ (Finalization p i ∷ [])) m ≡ is_live es m
-      other_live m q = ap (has m) (live_final es p i) ∙ has_kept (λ n. not (eqb n i)) m (ap not q) (live es)
+      other_live m q = left_live m ∙ ap (λ b. not b && is_live es m) q
 
       at : (m : ℕ) (b : Bool) → eqb m i ≡ b → origin (cond b None (w.at m)) ≡ origin_in (es ++ (Finalization p i ∷ [])) m
       at m true q = sym (ap (λ b. cond b (Some (origin_by (es ++ (Finalization p i ∷ [])) m)) None) (gone m q))

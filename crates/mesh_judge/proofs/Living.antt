@@ -7,9 +7,8 @@ use Rattle.mesh_stream.specs.declared.event.Event.TheVariants.{Vertex, Triangle,
 use Rattle.mesh_stream.specs.Lists.{has}
 use Rattle.mesh_stream.specs.Events.{introduced, finalized}
 use Rattle.mesh_stream.specs.Live.{live, is_live}
-use Rattle.mesh_stream.proofs.Having.{kept_yes, kept_no}
+use Rattle.mesh_stream.proofs.Having.{kept_yes, kept_no, kept_within}
 use Rattle.mesh_stream.proofs.Views.{introduced-++, finalized-++}
-use Rattle.mesh_stream.proofs.Distinct.{kept_within}
 
 -- live: introduced and not finalized
 pub live_introduced : (es : List Event) (n : ℕ) → is_live es n ≡ true → has n (introduced es) ≡ true

@@ -1,13 +1,13 @@
 -- What holds of the vertices of every accepted list.
 use Rattle.std.proofs.Common.{◌≡◌, ℕ, true, false, eqb, ◌⊎◌, List, [], ◌∷◌, ◌++◌, None, sym, refl, ap, ◌∙◌, subst, inl, inr, append_assoc, append-nil}
-use Rattle.std.proofs.lemmas.Bool.{both_ways, eqb-true, or_cases}
+use Rattle.std.proofs.lemmas.Bool.{both_ways, eqb-true, or_cases, false_from_ne_true}
 use Rattle.mesh_stream.specs.declared.event.Event.{Event}
 use Rattle.mesh_stream.specs.declared.event.Event.TheVariants.{Vertex, Triangle, Finalization}
 use Rattle.mesh_stream.specs.Lists.{has, above_all}
 use Rattle.mesh_stream.specs.Events.{introduced, finalized}
 use Rattle.mesh_stream.proofs.Having.{Within, has_left, has_cases, above_not_has}
 use Rattle.mesh_stream.proofs.Views.{introduced_v, introduced_t, introduced_f, finalized_v, finalized_t, finalized_f}
-use Rattle.mesh_stream.proofs.Distinct.{Distinct, distinct_push, not_true_false}
+use Rattle.mesh_stream.proofs.Distinct.{Distinct, distinct_push}
 use Rattle.mesh_judge.specs.Accepting.{refusal, Accepted, AcceptedAfter}
 use Rattle.mesh_judge.proofs.Refusing.{vertex_ok, final_ok}
 use Rattle.mesh_judge.proofs.Living.{live_introduced}
@@ -19,7 +19,7 @@ pub record Sound (es : List Event) : Type 0 where
 
 module _ (es : List Event) (s : Sound es) where
   pub new_not_final : (n : ℕ) → above_all n (introduced es) ≡ true → has n (finalized es) ≡ false
-  new_not_final n a = not_true_false _ (λ f. both_ways (has n (introduced es)) (above_not_has n (introduced es) a) (s.born n f))
+  new_not_final n a = false_from_ne_true _ (λ f. both_ways (has n (introduced es)) (above_not_has n (introduced es) a) (s.born n f))
 
   sound_as : (fs is : List ℕ) → Within fs is → Distinct is → (e : Event) → finalized (es ++ (e ∷ [])) ≡ fs → introduced (es ++ (e ∷ [])) ≡ is → Sound (es ++ (e ∷ []))
   sound_as fs is w d e f i = record {

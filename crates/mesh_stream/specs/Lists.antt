@@ -1,14 +1,13 @@
 -- Lists of numbers.
-use Rattle.std.specs.Prelude.{ℕ, zero, suc, Bool, true, false, ◌&&◌, ◌||◌, List, [], ◌∷◌, ◌==◌, nat_lt}
+use Rattle.std.specs.Prelude.{ℕ, zero, suc, Bool, List, [], ◌∷◌, ◌==◌, nat_lt}
+use Rattle.std.specs.List.{list_any, list_all}
 
 abbrev pub has : ℕ → List ℕ → Bool
-has n [] = false
-has n (m ∷ ms) = n == m || has n ms
+has n = list_any (λ m. n == m)
 
 -- n is above each of them
 abbrev pub above_all : ℕ → List ℕ → Bool
-above_all n [] = true
-above_all n (m ∷ ms) = nat_lt m n && above_all n ms
+above_all n = list_all (λ m. nat_lt m n)
 
 -- k, k + 1 and so on, n numbers in all
 abbrev pub counting : ℕ → ℕ → List ℕ
