@@ -1,5 +1,7 @@
 -- From what the table's calls promise to what the judge's calls do.
-use Rattle.std.proofs.Common.{◌≡◌, ℕ, ◌+◌, ◌-◌, ◌<◌, ◌≤◌, Bool, true, false, cond, ◌&&◌, eqb, ltb, leb, ◌⊎◌, List, [], ◌∷◌, ◌++◌, is_some, Some, None, Ok, Err, Option, sym, refl, ap, ◌∙◌, subst, inl, inr, arith}
+use Rattle.std.proofs.Common.{◌≡◌, ℕ, ◌+◌, ◌-◌, ◌<◌, ◌≤◌, Bool, true, false, cond, ◌&&◌, eqb, ltb, leb, ◌⊎◌, List, [], ◌∷◌, ◌++◌, is_some, Some, None, Ok, Err, Option, Result, sym, refl, ap, ◌∙◌, subst, inl, inr, arith, rules}
+use Rattle.std.specs.Option.{ok_or}
+use Rattle.std.specs.Result.{IsOk}
 use Rattle.std.proofs.lemmas.Bool.{eqb-true, eqb-false, and_parts, and_from, both_ways, leb-true, le-leb, ltb-true, lt-ltb, le-ltb}
 use Rattle.mesh_stream.specs.declared.event.Point.{Point}
 use Rattle.mesh_stream.specs.declared.event.Event.{Event}
@@ -24,7 +26,7 @@ use Rattle.mesh_judge.specs.declared.judge.Judge.{Judge}
 use Rattle.mesh_judge.specs.Accepting.{unless, refusal}
 use Rattle.mesh_judge.specs.Windows.{Window, fresh, put, there, refuses, enters, counted, leaves, first, end_by, ending, Knows}
 use Rattle.mesh_judge.specs.Records.{sound_record, Stray}
-use Rattle.mesh_judge.specs.Judging.{window_of, live_limit, KnowsList, Begun, Accepts, Rejects, KeptAt, Cornered, CornersFound, TakenOut, Stands}
+use Rattle.mesh_judge.specs.Judging.{window_of, live_limit, KnowsList, Begun, Accepts, Rejects, KeptAt, Cornered, CornersFound, TakenOut, Left, Stands}
 use Rattle.mesh_judge.proofs.Refusing.{some_not_none, unless_none}
 use Rattle.mesh_judge.proofs.Knowing.{first_none, first_some, refuses_is, ending_is, knows_none, knows_vertex, knows_triangle, knows_final}
 
@@ -157,8 +159,9 @@ entered j k n x q e c s h t r =
     (windows_same (window_of k) (enters (window_of j) n x) (elsewhere j.live k.live n (Some x) (subst (λ (z : Key). Sets j.live k.live z (Some x)) e s)) c h t)
 
 -- The insertion of an accepted vertex is not refused.
-pub not_refused : {T : Type 0} (j : Judge T) (u : Table (Live T) 2048) (n : ℕ) (x : Live T) (q : Key) (o : InsertError) → q ≡ vertex_key n → refuses (live_limit j) (window_of j) (Vertex x.place n x.at) ≡ None → Inserted j.live u q x (Err o) → ⊥
-not_refused j u n x q o e r h = at o h
+pub not_refused : {T : Type 0} (j : Judge T) (u : Table (Live T) 2048) (n : ℕ) (x : Live T) (q : Key) (r : Result (Unit {0}) InsertError) → q ≡ vertex_key n → refuses (live_limit j) (window_of j) (Vertex x.place n x.at) ≡ None → Inserted j.live u q x r → IsOk r
+not_refused j u n x q (Ok y) e r h = search rules
+not_refused j u n x q (Err o) e r h = absurd (at o h)
   where
     f : FitsIn (live_limit j) (window_of j) x.place n x.at r
     f = fits_in (live_limit j) (window_of j) x.place n x.at r
@@ -235,6 +238,10 @@ module _ {T : Type 0} (j k : Judge T) (p i : ℕ) where
       put_same n true q e = sym (ap (at_in j.live) (eqb-true n i q) ∙ e)
       put_same n false q e = refl
 
+pub finalized : {T : Type 0} (j k : Judge T) (i : ℕ) (o : Option (Live T)) → TakenOut j i o k → Left j i (ok_or o NotLive) k
+finalized j k i None t = λ p. not_left j k p i t
+finalized j k i (Some x) t = let l = left j k 0 i x t in ((λ p. (left j k p i x t).0), l.1, l.2)
+
 -- How it stands.
 
 module _ {T : Type 0} (j : Judge T) (layer : LayerName) where
@@ -244,8 +251,6 @@ module _ {T : Type 0} (j : Judge T) (layer : LayerName) where
   pub stands_at_end : (below s : Standing) (o : Option (Live T)) → below ≡ Ended → Lowest j.live j.highest o → s ≡ end_by layer o → Stands j layer below s
   stands_at_end below s o e l q = stands_by_window below s (q ∙ ap (end_by layer) (sym (lowest_first j.live j.highest o l)) ∙ ap (ending layer (window_of j)) (sym e))
 
-  pub stands_waiting : (below : Standing) → below ≡ Waiting → Stands j layer below Waiting
-  stands_waiting below e = stands_by_window below Waiting (ap (ending layer (window_of j)) (sym e))
-
-  pub stands_faulty : (below : Standing) (f : Fault) → below ≡ Faulty f → Stands j layer below (Faulty f)
-  stands_faulty below f e = stands_by_window below (Faulty f) (ap (ending layer (window_of j)) (sym e))
+  pub stands_before_end : (below : Standing) → (below ≡ Waiting) ⊎ ((f : Fault) × (below ≡ Faulty f)) → Stands j layer below below
+  stands_before_end below (inl e) = stands_by_window below below (e ∙ ap (ending layer (window_of j)) (sym e))
+  stands_before_end below (inr (f, e)) = stands_by_window below below (e ∙ ap (ending layer (window_of j)) (sym e))

@@ -1,5 +1,5 @@
 -- What it says of an event of each kind that it is accepted.
-use Rattle.std.proofs.Common.{◌≡◌, ℕ, ◌<◌, Bool, true, false, ◌&&◌, List, length, Some, None, Option, refl, arith}
+use Rattle.std.proofs.Common.{◌≡◌, ℕ, ◌<◌, Bool, true, false, ◌&&◌, List, length, Some, None, Option, refl}
 use Rattle.std.proofs.lemmas.Bool.{and_parts, ltb-true}
 use Rattle.mesh_stream.specs.declared.event.Point.{Point}
 use Rattle.mesh_stream.specs.declared.event.Event.{Event}
@@ -12,7 +12,7 @@ use Rattle.mesh_stream.specs.Ranges.{in_space, vertex_number}
 use Rattle.mesh_judge.specs.Accepting.{unless, refusal}
 
 pub some_not_none : {A : Type 0} (c : A) → Some c ≡ None → ⊥
-some_not_none c e = let z : ◌≡◌ {A = ℕ} 0 1 = cc in omega arith
+some_not_none c e = cc
 
 pub unless_none : (b : Bool) (c : Cause) (o : Option Cause) → unless b c o ≡ None → (b ≡ true) × (o ≡ None)
 unless_none true c o e = (refl, e)

@@ -3,12 +3,10 @@ use Rattle.std.proofs.Common.{◌≡◌, ℕ, ◌<◌, ◌≤◌, List, length, 
 use Rattle.std.proofs.lemmas.List.{get_or_past}
 use Rattle.std.proofs.lemmas.Bool.{cases_lt, cases_order}
 use Rattle.mesh_table.specs.declared.key.Key.{Key}
-use Rattle.mesh_table.specs.declared.slots.Slot.{Slot}
-use Rattle.mesh_table.specs.declared.slots.Slot.TheVariants.{Empty, Full}
-use Rattle.mesh_table.specs.declared.slots.Probe.{Probe}
-use Rattle.mesh_table.specs.declared.slots.Probe.TheVariants.{Found, Vacant, Exhausted}
-use Rattle.mesh_table.specs.Probing.{slot_at, slot_ahead, home_slot, filled, size, lookup, value_in, Misses, Passed, Distinct, Reached, Probed, Sought}
-use Rattle.mesh_table.proofs.Ring.{ahead_onto}
+use Rattle.mesh_table.specs.declared.ring.Probe.{Probe}
+use Rattle.mesh_table.specs.declared.ring.Probe.TheVariants.{Found, Vacant, Exhausted}
+use Rattle.mesh_table.specs.Probing.{Slot, Empty, Full, slot_at, slot_ahead, home_slot, filled, size, lookup, value_in, Misses, Passed, Distinct, Reached, Probed, Sought}
+use Rattle.mesh_table.proofs.Steps.{ahead_onto}
 use Rattle.mesh_table.proofs.SlotCases.{empty_full, foreign_misses, foreign_filled}
 use Rattle.mesh_table.proofs.Finite.{size_full, lookup_none, lookup_here}
 

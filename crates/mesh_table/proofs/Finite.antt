@@ -3,18 +3,16 @@ use Rattle.std.proofs.Common.{◌≡◌, ℕ, zero, suc, ◌+◌, ◌<◌, ◌�
 use Rattle.std.proofs.lemmas.List.{get_or_past, get_or-set_same, get_or-set_other, get_or-replicate, length-replicate}
 use Rattle.std.proofs.lemmas.Bool.{cases_lt, cases_eq, cases_order, cases_Bool, cond-true, cond-false}
 use Rattle.mesh_table.specs.declared.key.Key.{Key}
-use Rattle.mesh_table.specs.declared.slots.Slot.{Slot}
-use Rattle.mesh_table.specs.declared.slots.Slot.TheVariants.{Empty, Full}
 use Rattle.mesh_table.specs.Keys.{same_key}
-use Rattle.mesh_table.specs.Probing.{slot_at, pick, lookup, filled, size, Misses, Distinct}
+use Rattle.mesh_table.specs.Probing.{Slot, Empty, Full, slot_at, pick, lookup, filled, size, Misses, Distinct}
 use Rattle.mesh_table.proofs.Keys.{same_key_refl, same_key_true}
 use Rattle.mesh_table.proofs.SlotCases.{empty_full}
 
 pick_miss : {V : Type 0} (s : Slot V) (k : Key) (o : Option V) → Misses s k → pick s k o ≡ o
-pick_miss Empty k o m = refl
-pick_miss (Full j v) k o m =
-    ⊎_elim (λ (t : same_key j k ≡ true). absurd (m v (ap (λ (x : Key). Full x v) (same_key_true j k t))))
-    (λ (f : same_key j k ≡ false). cond-false (same_key j k) (Some v) o f) (cases_Bool (same_key j k))
+pick_miss None k o m = refl
+pick_miss (Some r) k o m =
+    ⊎_elim (λ (t : same_key r.key k ≡ true). absurd (m r.value (ap (λ (x : Key). Full x r.value) (same_key_true r.key k t))))
+    (λ (f : same_key r.key k ≡ false). cond-false (same_key r.key k) (Some r.value) o f) (cases_Bool (same_key r.key k))
 
 pub lookup_none : {V : Type 0} (ss : List (Slot V)) (k : Key) → ((j : ℕ) → Misses (slot_at ss j) k) → lookup ss k ≡ None
 lookup_none [] k m = refl
@@ -41,8 +39,8 @@ lookup_set_miss (x ∷ ss) (suc i) s q m m' = ap (pick x q) (lookup_set_miss ss 
 
 pub lookup_zero : {V : Type 0} (ss : List (Slot V)) (k : Key) → size ss ≡ 0 → lookup ss k ≡ None
 lookup_zero [] k z = refl
-lookup_zero (Empty ∷ ss) k z = lookup_zero ss k (omega arith)
-lookup_zero (Full j v ∷ ss) k z = absurd (omega arith)
+lookup_zero (None ∷ ss) k z = lookup_zero ss k (omega arith)
+lookup_zero (Some r ∷ ss) k z = absurd (omega arith)
 
 pub size_set :
     {V : Type 0} (ss : List (Slot V)) (i : ℕ) (s : Slot V) → i < length ss

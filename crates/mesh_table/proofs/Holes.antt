@@ -1,15 +1,14 @@
 -- The steps that close the hole a removed record leaves.
-use Rattle.std.proofs.Common.{◌≡◌, ℕ, ◌+◌, ◌<◌, ◌≤◌, Bool, true, false, ltb, List, length, set, Some, None, sym, refl, ap, ◌∙◌, subst, ⊎_elim, arith}
+use Rattle.std.proofs.Common.{◌≡◌, ℕ, ◌+◌, ◌<◌, ◌≤◌, List, length, set, Some, None, sym, refl, ap, ◌∙◌, subst, ⊎_elim, arith, length-set}
 use Rattle.std.proofs.lemmas.List.{get_or-set_same, get_or-set_other}
-use Rattle.std.proofs.lemmas.Bool.{cases_lt, ltb-true, ltb-false}
+use Rattle.std.proofs.lemmas.Bool.{cases_lt}
 use Rattle.mesh_table.specs.declared.key.Key.{Key}
-use Rattle.mesh_table.specs.declared.slots.Slot.{Slot}
-use Rattle.mesh_table.specs.declared.slots.Slot.TheVariants.{Empty, Full}
-use Rattle.mesh_table.specs.Probing.{slot_at, slot_ahead, steps_between, home_slot, filled, size, lookup, Cut, Sound, Holed, Alike}
+use Rattle.mesh_table.specs.Probing.{Slot, Empty, Full, slot_at, slot_ahead, steps_between, home_slot, filled, lookup, Cut, Sound, Holed, CutOff, Alike}
 use Rattle.mesh_table.proofs.Keys.{key_cases}
-use Rattle.mesh_table.proofs.Ring.{ahead_add, ahead_same, ahead_steps, steps_below, steps_ahead, home_below}
+use Rattle.mesh_table.proofs.Steps.{ahead_add, ahead_same, ahead_steps, steps_below, steps_ahead, home_below}
 use Rattle.mesh_table.proofs.SlotCases.{empty_full, none_some, full_key, empty_misses}
 use Rattle.mesh_table.proofs.Finite.{lookup_here, size_set, was}
+use Rattle.mesh_table.proofs.Drift.{drift, drift_moved}
 use Rattle.mesh_table.proofs.Writes.{Written, put_full, put_empty}
 
 -- each record with the hole between it and its home is g steps or more behind the hole
@@ -18,44 +17,37 @@ Far {V} n ss hole g =
     (k : Key) (v : V) (d e : ℕ) → e < n → d < e → slot_ahead n (home_slot n k) d ≡ hole
     → slot_at ss (slot_ahead n (home_slot n k) e) ≡ Full k v → d + g ≤ e
 
+-- a record is moved into the hole, and slot i is the next hole
+pub record Moved {V : Type 0} (n : ℕ) (ss ts : List (Slot V)) (i : ℕ) : Type 0 where
+  pub holed : Holed n ts i
+  pub alike : Alike ss ts
+  pub nearer : drift n 0 ts < drift n 0 ss
+
 pub far_one : {V : Type 0} (n : ℕ) (ss : List (Slot V)) (hole : ℕ) → Far n ss hole 1
 far_one n ss hole k v d e en de at p = omega arith
 
 pub alike_more : {V : Type 0} (rs ss ts : List (Slot V)) → Alike rs ss → Alike ss ts → Alike rs ts
 alike_more rs ss ts a b = record { size = b.size ∙ a.size; lookup = λ q. b.lookup q ∙ a.lookup q }
 
--- the test of a record that is cut off
-pub cut_off :
-    (n h' h hole i : ℕ) (r : Bool) → h' ≡ h → r ≡ ltb (steps_between n h' hole) (steps_between n h' i) → r ≡ true
-    → steps_between n h hole < steps_between n h i
-cut_off n h' h hole i r e p q =
-    ltb-true (steps_between n h hole) (steps_between n h i)
-    (ap (λ (x : ℕ). ltb (steps_between n x hole) (steps_between n x i)) (sym e) ∙ sym p ∙ q)
-
-pub not_cut_off :
-    (n h' h hole i : ℕ) (r : Bool) → h' ≡ h → r ≡ ltb (steps_between n h' hole) (steps_between n h' i) → r ≡ false
-    → steps_between n h i ≤ steps_between n h hole
-not_cut_off n h' h hole i r e p q =
-    ltb-false (steps_between n h hole) (steps_between n h i)
-    (ap (λ (x : ℕ). ltb (steps_between n x hole) (steps_between n x i)) (sym e) ∙ sym p ∙ q)
-
-module _ {V : Type 0} (n : ℕ) (ss : List (Slot V)) (hole : ℕ) (h : Holed n ss hole) where
+module _ {V : Type 0} (n : ℕ) (ss : List (Slot V)) (hole : ℕ) (len : length ss ≡ n) (h : Holed n ss hole) where
   pos : 0 < n
   pos = omega (arith, h.inside)
 
   -- nothing is cut off where every record with the hole before it would stand beyond the last slot
-  pub whole : Far n ss hole n → Sound n ss
-  whole far =
+  pub whole : (g : ℕ) → n ≤ g → Far n ss hole g → Sound n ss
+  whole g all far =
       record {
-        long = h.long;
         distinct = h.distinct;
         reached = λ c. let f = far c.0 c.1 c.2 c.3 c.4 c.6 (h.reached c) c.5 in omega (arith, f, c.4);
       }
 
   -- nothing is cut off where an empty slot stands g steps behind the hole
-  pub ended : (g : ℕ) → 0 < g → g < n → slot_at ss (slot_ahead n hole g) ≡ Empty → Far n ss hole g → Sound n ss
-  ended g gp gn end far = record { long = h.long; distinct = h.distinct; reached = none }
+  pub ended : (g i : ℕ) → 0 < g → g < n → i ≡ slot_ahead n hole g → slot_at ss i ≡ Empty → Far n ss hole g → Sound n ss
+  ended g i gp gn is empty far = record { distinct = h.distinct; reached = none }
     where
+      end : slot_at ss (slot_ahead n hole g) ≡ Empty
+      end = ap (slot_at ss) (sym is) ∙ empty
+
       none : Cut n ss → ⊥
       none (k, v, d, e, en, p, de, q) =
           let hb : home_slot n k < n = home_below n k pos in
@@ -78,10 +70,12 @@ module _ {V : Type 0} (n : ℕ) (ss : List (Slot V)) (hole : ℕ) (h : Holed n s
 
   -- a record that the hole does not cut off is passed
   pub passed :
-      (k : Key) (v : V) (g : ℕ) → g < n → slot_at ss (slot_ahead n hole g) ≡ Full k v
-      → steps_between n (home_slot n k) (slot_ahead n hole g) ≤ steps_between n (home_slot n k) hole → Far n ss hole g
-      → Far n ss hole (g + 1)
-  passed k v g gn here less far k' v' d e en de at p =
+      (k : Key) (v : V) (g i : ℕ) → g < n → i ≡ slot_ahead n hole g → slot_at ss i ≡ Full k v
+      → steps_between n (home_slot n k) i ≤ steps_between n (home_slot n k) hole → Far n ss hole g → Far n ss hole (g + 1)
+  passed k v g i gn is full less far k' v' d e en de at p =
+      let here : slot_at ss (slot_ahead n hole g) ≡ Full k v = ap (slot_at ss) (sym is) ∙ full in
+      let same : steps_between n (home_slot n k) i ≡ steps_between n (home_slot n k) (slot_ahead n hole g) =
+      ap (steps_between n (home_slot n k)) is in
       let dg : d + g ≤ e = far k' v' d e en de at p in
       ⊎_elim (λ (lt : d + g < e). omega arith)
       (λ (ge : e ≤ d + g).
@@ -98,54 +92,60 @@ module _ {V : Type 0} (n : ℕ) (ss : List (Slot V)) (hole : ℕ) (h : Holed n s
       let b : steps_between n (home_slot n k) hole ≡ d =
       ap (λ (x : ℕ). steps_between n x hole) hh ∙ ap (steps_between n (home_slot n k')) (sym at)
       ∙ steps_ahead n (home_slot n k') d hb (omega arith) in
-      absurd (omega (arith, less, a, b, de)))
+      absurd (omega (arith, less, same, a, b, de)))
       (cases_lt (d + g) e)
 
   -- a record that the hole cuts off goes into it
-  module _ (k : Key) (v : V) (i : ℕ) (lt : i < n) (old : slot_at ss i ≡ Full k v) (less : steps_between n (home_slot n k) hole < steps_between n (home_slot n k) i) where
-    pub apart : hole ≡ i → ⊥
-    apart e = empty_full (slot_at ss hole) k v h.bare (ap (slot_at ss) e ∙ old)
+  module _ (i : ℕ) (c : CutOff n ss hole i) where
+    abbrev k : Key
+    k = c.key
 
-    lifted : Written n ss (set ss i Empty) k None × (size (set ss i Empty) + 1 ≡ size ss) × (lookup ss k ≡ Some v)
-    lifted = put_empty n ss h.long h.distinct k v i lt old
+    abbrev v : V
+    v = c.value
 
-    bare' : slot_at (set ss i Empty) hole ≡ Empty
+    abbrev us : List (Slot V)
+    us = set ss i Empty
+
+    abbrev ts : List (Slot V)
+    ts = set us hole (Full k v)
+
+    apart : hole ≡ i → ⊥
+    apart e = empty_full (slot_at ss hole) k v h.bare (ap (slot_at ss) e ∙ c.here)
+
+    there : i < length ss
+    there = omega (arith, len, c.inside)
+
+    there' : hole < length us
+    there' = omega (arith, length-set ss i Empty, len, h.inside)
+
+    lifted : Written ss us k None
+    lifted = put_empty n ss len h.distinct k v i c.inside c.here
+
+    bare' : slot_at us hole ≡ Empty
     bare' = get_or-set_other ss i hole Empty Empty apart ∙ h.bare
 
-    placed : Written n (set ss i Empty) (set (set ss i Empty) hole (Full k v)) k (Some v)
+    placed : Written us ts k (Some v)
     placed =
-        put_full n (set ss i Empty) lifted.0.long lifted.0.distinct k v hole h.inside
-        (λ j _ w p.
-        none_some (lookup (set ss i Empty) k) w lifted.0.here (lookup_here (set ss i Empty) j k w lifted.0.distinct p))
-        (λ q _. empty_misses (slot_at (set ss i Empty) hole) q bare')
-
-    long' : hole < length (set ss i Empty)
-    long' = omega (arith, lifted.0.long, h.inside)
+        put_full n us (length-set ss i Empty ∙ len) lifted.distinct k v hole h.inside
+        (λ j _ w p. none_some (lookup us k) w lifted.becomes.here (lookup_here us j k w lifted.distinct p))
+        (λ q _. empty_misses (slot_at us hole) q bare')
 
     -- an empty slot other than i was empty, and is not the hole
-    only :
-        (c : Cut n (set (set ss i Empty) hole (Full k v))) → slot_ahead n (home_slot n c.0) c.2 ≡ i
+    only : (c : Cut n ts) → slot_ahead n (home_slot n c.0) c.2 ≡ i
     only (q, w, d, e, en, p, de, z) =
         let a : ℕ = slot_ahead n (home_slot n q) d in
         ⊎_elim (λ (o : (a ≡ hole) × (Full k v ≡ Empty)). absurd (empty_full (Full k v) k v o.1 refl))
-        (λ (z' : slot_at (set ss i Empty) a ≡ Empty).
-        ⊎_elim (λ (o : (a ≡ i) × (Empty ≡ Empty)). o.0)
-        (λ (z'' : slot_at ss a ≡ Empty). absurd (cut q w d e en p de z z''))
-        (was ss i Empty a Empty (omega (arith, h.long, lt)) z'))
-        (was (set ss i Empty) hole (Full k v) a Empty long' z)
+        (λ (z' : slot_at us a ≡ Empty).
+        ⊎_elim (λ (o : (a ≡ i) × (Empty ≡ Empty)). o.0) (λ (z'' : slot_at ss a ≡ Empty). absurd (cut q w d e en p de z z''))
+        (was ss i Empty a Empty there z'))
+        (was us hole (Full k v) a Empty there' z)
       where
-        filled' : slot_at (set (set ss i Empty) hole (Full k v)) hole ≡ Full k v
-        filled' = get_or-set_same (set ss i Empty) hole (Full k v) Empty long'
-
         cut :
-            (q : Key) (w : V) (d e : ℕ) → e < n
-            → slot_at (set (set ss i Empty) hole (Full k v)) (slot_ahead n (home_slot n q) e) ≡ Full q w → d < e
-            → slot_at (set (set ss i Empty) hole (Full k v)) (slot_ahead n (home_slot n q) d) ≡ Empty
-            → slot_at ss (slot_ahead n (home_slot n q) d) ≡ Empty → ⊥
+            (q : Key) (w : V) (d e : ℕ) → e < n → slot_at ts (slot_ahead n (home_slot n q) e) ≡ Full q w → d < e
+            → slot_at ts (slot_ahead n (home_slot n q) d) ≡ Empty → slot_at ss (slot_ahead n (home_slot n q) d) ≡ Empty → ⊥
         cut q w d e en p de z z'' =
             let not_hole : slot_ahead n (home_slot n q) d ≡ hole → ⊥ =
-            λ x. empty_full (slot_at (set (set ss i Empty) hole (Full k v)) hole) k v
-            (ap (slot_at (set (set ss i Empty) hole (Full k v))) (sym x) ∙ z) filled' in
+            λ x. empty_full (slot_at ts hole) k v (ap (slot_at ts) (sym x) ∙ z) (get_or-set_same us hole (Full k v) Empty there') in
             ⊎_elim
             (λ (o : (slot_ahead n (home_slot n q) e ≡ hole) × (Full k v ≡ Full q w)).
             let kk : k ≡ q = full_key (Full k v) k q v w refl o.1 in
@@ -162,34 +162,38 @@ module _ {V : Type 0} (n : ℕ) (ss : List (Slot V)) (hole : ℕ) (h : Holed n s
               v,
               d,
               steps_between n (home_slot n k) i,
-              steps_below n (home_slot n k) i hb lt,
-              ap (slot_at ss) (ahead_steps n (home_slot n k) i hb lt) ∙ old,
-              omega (arith, at_hole, de, less),
+              steps_below n (home_slot n k) i hb c.inside,
+              ap (slot_at ss) (ahead_steps n (home_slot n k) i hb c.inside) ∙ c.here,
+              omega (arith, at_hole, de, c.before),
               ap (slot_at ss) back ∙ z'',
             )))
-            (λ (p' : slot_at (set ss i Empty) (slot_ahead n (home_slot n q) e) ≡ Full q w).
-            ⊎_elim
-            (λ (o : (slot_ahead n (home_slot n q) e ≡ i) × (Empty ≡ Full q w)). empty_full Empty q w refl o.1)
+            (λ (p' : slot_at us (slot_ahead n (home_slot n q) e) ≡ Full q w).
+            ⊎_elim (λ (o : (slot_ahead n (home_slot n q) e ≡ i) × (Empty ≡ Full q w)). empty_full Empty q w refl o.1)
             (λ (p'' : slot_at ss (slot_ahead n (home_slot n q) e) ≡ Full q w).
             not_hole (h.reached (q, w, d, e, en, p'', de, z'')))
-            (was ss i Empty (slot_ahead n (home_slot n q) e) (Full q w) (omega (arith, h.long, lt)) p'))
-            (was (set ss i Empty) hole (Full k v) (slot_ahead n (home_slot n q) e) (Full q w) long' p)
+            (was ss i Empty (slot_ahead n (home_slot n q) e) (Full q w) there p'))
+            (was us hole (Full k v) (slot_ahead n (home_slot n q) e) (Full q w) there' p)
 
-    pub moved : (ts : List (Slot V)) → ts ≡ set (set ss i Empty) hole (Full k v) → Holed n ts i × Alike ss ts
-    moved ts is =
-        subst (λ (x : List (Slot V)). Holed n x i × Alike ss x) (sym is) (
-          record {
-            long = placed.long;
+    pub moved :
+        (r : Slot V) (xs ys : List (Slot V)) → r ≡ slot_at ss i → xs ≡ set ss i Empty → ys ≡ set xs hole r → Moved n ss ys i
+    moved r xs ys is emptied written =
+        subst (λ (x : List (Slot V)). Moved n ss x i)
+        (sym (written ∙ ap (λ (x : List (Slot V)). set x hole r) emptied ∙ ap (set us hole) (is ∙ c.here))) (
+        record {
+          holed = record {
             distinct = placed.distinct;
-            inside = lt;
-            bare = get_or-set_other (set ss i Empty) hole i (Full k v) Empty (λ e. apart (sym e)) ∙ get_or-set_same ss i Empty Empty (omega (arith, h.long, lt));
+            inside = c.inside;
+            bare = get_or-set_other us hole i (Full k v) Empty (λ e. apart (sym e)) ∙ get_or-set_same ss i Empty Empty there;
             reached = only;
-          },
-          record {
-            size = omega (arith, size_set (set ss i Empty) hole (Full k v) long', ap filled bare', lifted.1);
+          };
+          alike = record {
+            size = omega (arith, size_set us hole (Full k v) there', ap filled bare', size_set ss i Empty there, ap filled c.here);
             lookup = λ q.
                 ⊎_elim
-                (λ (e : q ≡ k). ap (lookup (set (set ss i Empty) hole (Full k v))) e ∙ placed.here ∙ sym lifted.2 ∙ ap (lookup ss) (sym e))
-                (λ (d : q ≡ k → ⊥). placed.other q d ∙ lifted.0.other q d) (key_cases q k);
-          },
+                (λ (e : q ≡ k).
+                ap (lookup ts) e ∙ placed.becomes.here ∙ sym (lookup_here ss i k v h.distinct c.here) ∙ ap (lookup ss) (sym e))
+                (λ (d : q ≡ k → ⊥). placed.becomes.other q d ∙ lifted.becomes.other q d) (key_cases q k);
+          };
+          nearer = drift_moved n ss hole i len h.inside h.bare c;
+        }
         )

@@ -1,9 +1,9 @@
 pub mod Keys
-pub mod Ring
+pub mod Steps
 pub mod SlotCases
 pub mod Finite
 pub mod Absent
 pub mod Writes
-pub mod Holes
 pub mod Drift
+pub mod Holes
 pub mod Nearing

@@ -1,12 +1,10 @@
 -- What a write to one slot makes of the map that the slots are.
-use Rattle.std.proofs.Common.{◌≡◌, ℕ, ◌+◌, ◌<◌, List, length, set, replicate, Some, None, Option, sym, refl, ap, ◌∙◌, subst, ⊎_elim, arith, length-set}
+use Rattle.std.proofs.Common.{◌≡◌, ℕ, ◌+◌, ◌<◌, cond, List, length, set, replicate, is_some, Some, None, Option, sym, refl, ap, ◌∙◌, inl, inr, ⊎_elim, arith}
 use Rattle.std.proofs.lemmas.List.{get_or-set_same}
 use Rattle.std.proofs.lemmas.Bool.{cases_eq}
 use Rattle.mesh_table.specs.declared.key.Key.{Key}
-use Rattle.mesh_table.specs.declared.slots.Slot.{Slot}
-use Rattle.mesh_table.specs.declared.slots.Slot.TheVariants.{Empty, Full}
-use Rattle.mesh_table.specs.Probing.{slot_at, slot_ahead, home_slot, filled, size, lookup, Misses, Distinct, Reached, Has, Vacancy, Sound, Holed, Alike, Becomes, Cut}
-use Rattle.mesh_table.proofs.Ring.{ahead_onto, ahead_same, home_below}
+use Rattle.mesh_table.specs.Probing.{Slot, Empty, Full, slot_at, slot_ahead, home_slot, filled, size, lookup, Misses, Distinct, Reached, Has, Sound, Holed, Alike, Becomes, EndsAt, Cut}
+use Rattle.mesh_table.proofs.Steps.{ahead_onto, ahead_same, home_below}
 use Rattle.mesh_table.proofs.Absent.{vacant_misses}
 use Rattle.mesh_table.proofs.SlotCases.{empty_full, full_key, empty_misses, full_misses, foreign_full}
 use Rattle.mesh_table.proofs.Finite.{lookup_here, lookup_none, lookup_set_miss, size_set, slot_none, was, distinct_two}
@@ -67,53 +65,55 @@ module _ {V : Type 0} (ss : List (Slot V)) (i : ℕ) (l : i < length ss) where
       (was ss i (Full k v) (slot_ahead n (home_slot n k') d) Empty l q)
 
 -- ts is the map ss with w at k
-pub record Written {V : Type 0} (n : ℕ) (ss ts : List (Slot V)) (k : Key) (w : Option V) : Type 0 where
-  pub long : length ts ≡ n
+pub record Written {V : Type 0} (ss ts : List (Slot V)) (k : Key) (w : Option V) : Type 0 where
   pub distinct : Distinct ts
-  pub here : lookup ts k ≡ w
-  pub other : (q : Key) → (q ≡ k → ⊥) → lookup ts q ≡ lookup ss q
+  pub becomes : Becomes ss ts k w
 
-becomes :
-    {V : Type 0} {n : ℕ} {ss ts : List (Slot V)} {k : Key} {w : Option V} → Written n ss ts k w → Reached n ts → Becomes n ss ts k w
-becomes a r =
-    record {
-      sound = record { long = a.long; distinct = a.distinct; reached = r };
-      here = a.here;
-      other = a.other;
-    }
+-- the map, after records have been moved
+pub becomes_alike :
+    {V : Type 0} {ss ts us : List (Slot V)} {k : Key} {w : Option V} → Becomes ss ts k w → Alike ts us → Becomes ss us k w
+becomes_alike b alike = record { here = alike.lookup _ ∙ b.here; other = λ q ne. alike.lookup q ∙ b.other q ne }
+
+-- a value is put at a key, where a search for the key ends
+pub record Took {V : Type 0} (n : ℕ) (ss ts : List (Slot V)) (k : Key) (v : V) : Type 0 where
+  pub sound : Sound n ts
+  pub becomes : Becomes ss ts k (Some v)
+  pub counted : size ts + cond (is_some (lookup ss k)) 1 0 ≡ size ss + 1
+
+-- the slot of a record is emptied, and is the hole
+pub record Emptied {V : Type 0} (n : ℕ) (ss ts : List (Slot V)) (k : Key) (i : ℕ) : Type 0 where
+  pub holed : Holed n ts i
+  pub becomes : Becomes ss ts k None
+  pub counted : size ts + 1 ≡ size ss
 
 module _ {V : Type 0} (n : ℕ) (ss : List (Slot V)) (len : length ss ≡ n) (dis : Distinct ss) where
   pub put_full :
       (k : Key) (v : V) (i : ℕ) → i < n → ((j : ℕ) → (j ≡ i → ⊥) → Misses (slot_at ss j) k)
-      → ((q : Key) → (q ≡ k → ⊥) → Misses (slot_at ss i) q) → Written n ss (set ss i (Full k v)) k (Some v)
+      → ((q : Key) → (q ≡ k → ⊥) → Misses (slot_at ss i) q) → Written ss (set ss i (Full k v)) k (Some v)
   put_full k v i lt m free =
       let l : i < length ss = omega arith in
       let a = distinct_full ss i l k v dis m in
       record {
-        long = length-set ss i (Full k v) ∙ len;
         distinct = a;
-        here = lookup_here (set ss i (Full k v)) i k v a (get_or-set_same ss i (Full k v) Empty l);
-        other = λ q ne. lookup_set_miss ss i (Full k v) q (free q ne) (full_misses (Full k v) k q v refl ne);
+        becomes = record {
+          here = lookup_here (set ss i (Full k v)) i k v a (get_or-set_same ss i (Full k v) Empty l);
+          other = λ q ne. lookup_set_miss ss i (Full k v) q (free q ne) (full_misses (Full k v) k q v refl ne);
+        };
       }
 
-  pub put_empty :
-      (k : Key) (w : V) (i : ℕ) → i < n → slot_at ss i ≡ Full k w
-      → Written n ss (set ss i Empty) k None × (size (set ss i Empty) + 1 ≡ size ss) × (lookup ss k ≡ Some w)
+  pub put_empty : (k : Key) (w : V) (i : ℕ) → i < n → slot_at ss i ≡ Full k w → Written ss (set ss i Empty) k None
   put_empty k w i lt old =
-      let l : i < length ss = omega arith in (
-        record {
-          long = length-set ss i Empty ∙ len;
-          distinct = distinct_empty ss i l dis;
-          here = lookup_none (set ss i Empty) k gone;
+      let l : i < length ss = omega arith in
+      record {
+        distinct = distinct_empty ss i l dis;
+        becomes = record {
+          here = lookup_none (set ss i Empty) k (gone l);
           other = λ q ne. lookup_set_miss ss i Empty q (full_misses (slot_at ss i) k q w old ne) (empty_misses Empty q refl);
-        },
-        omega (arith, size_set ss i Empty l, ap filled old),
-        lookup_here ss i k w dis old,
-      )
+        };
+      }
     where
-      gone : (j : ℕ) → Misses (slot_at (set ss i Empty) j) k
-      gone j v p =
-          let l : i < length ss = omega arith in
+      gone : i < length ss → (j : ℕ) → Misses (slot_at (set ss i Empty) j) k
+      gone l j v p =
           ⊎_elim
           (λ (e : j ≡ i).
           empty_full Empty k v refl (sym (get_or-set_same ss i Empty Empty l) ∙ ap (slot_at (set ss i Empty)) (sym e) ∙ p))
@@ -123,50 +123,49 @@ module _ {V : Type 0} (n : ℕ) (ss : List (Slot V)) (len : length ss ≡ n) (di
           (cases_eq j i)
 
   module _ (pos : 0 < n) (re : Reached n ss) where
-    pub inserted :
-        (ts : List (Slot V)) (k : Key) (v : V) (i : ℕ) → Vacancy n ss k i → ts ≡ set ss i (Full k v)
-        → Becomes n ss ts k (Some v) × (size ts ≡ size ss + 1)
-    inserted ts k v i vac is =
-        let l : i < length ss = omega (arith, vac.inside) in
-        let miss = vacant_misses n ss k len (home_below n k pos) re vac.steps (ap (slot_at ss) (sym vac.at) ∙ vac.bare) vac.passed in
-        subst (λ (x : List (Slot V)). Becomes n ss x k (Some v) × (size x ≡ size ss + 1)) (sym is) (
-          becomes (put_full k v i vac.inside (λ j _. miss j) (λ q _. empty_misses (slot_at ss i) q vac.bare))
-              (reached_full ss i l n k v pos re vac.steps vac.within (sym vac.at) (λ d l. foreign_full _ k (vac.passed d l))),
-          omega (arith, size_set ss i (Full k v) l, ap filled vac.bare),
-        )
-
-    pub changed :
-        (ts : List (Slot V)) (k : Key) (v w : V) (i : ℕ) → i < n → slot_at ss i ≡ Full k w → ts ≡ set ss i (Full k v)
-        → Becomes n ss ts k (Some v) × (size ts ≡ size ss)
-    changed ts k v w i lt old is =
+    pub took : (k : Key) (v : V) (i : ℕ) → EndsAt n ss k i → Took n ss (set ss i (Full k v)) k v
+    took k v i (inl (lt, has, at, there)) =
         let l : i < length ss = omega arith in
         let o = ahead_onto n (home_slot n k) i (home_below n k pos) lt in
-        subst (λ (x : List (Slot V)). Becomes n ss x k (Some v) × (size x ≡ size ss)) (sym is) (
-          becomes
-              (put_full k v i lt (λ j ne u q. distinct_two ss k j i u w dis ne q old) (λ q ne. full_misses (slot_at ss i) k q w old ne))
-              (reached_full ss i l n k v pos re o.0 o.1 o.2
-              (λ d de q. re (k, w, d, o.0, o.1, ap (slot_at ss) o.2 ∙ old, de, q))),
-          omega (arith, size_set ss i (Full k v) l, ap filled old),
-        )
+        let p =
+        put_full k v i lt (λ j ne u q. distinct_two ss k j i u has.0 dis ne q has.1)
+        (λ q ne. full_misses (slot_at ss i) k q has.0 has.1 ne) in
+        record {
+          sound = record {
+            distinct = p.distinct;
+            reached = reached_full ss i l n k v pos re o.0 o.1 o.2
+                (λ d de q. re (k, has.0, d, o.0, o.1, ap (slot_at ss) o.2 ∙ has.1, de, q));
+          };
+          becomes = p.becomes;
+          counted = omega (arith, size_set ss i (Full k v) l, ap filled has.1, ap (λ b. cond {A = ℕ} b 1 0) there);
+        }
+    took k v i (inr (vac, none)) =
+        let l : i < length ss = omega (arith, vac.inside) in
+        let miss = vacant_misses n ss k len (home_below n k pos) re vac.steps (ap (slot_at ss) (sym vac.at) ∙ vac.bare) vac.passed in
+        let p = put_full k v i vac.inside (λ j _. miss j) (λ q _. empty_misses (slot_at ss i) q vac.bare) in
+        record {
+          sound = record {
+            distinct = p.distinct;
+            reached = reached_full ss i l n k v pos re vac.steps vac.within (sym vac.at) (λ d l. foreign_full _ k (vac.passed d l));
+          };
+          becomes = p.becomes;
+          counted = omega (arith, size_set ss i (Full k v) l, ap filled vac.bare, ap (λ (o : Option V). cond {A = ℕ} (is_some o) 1 0) none);
+        }
 
-    -- the slot of a record is emptied, and is the hole
-    pub emptied :
-        (ts : List (Slot V)) (k : Key) (w : V) (i : ℕ) → i < n → slot_at ss i ≡ Full k w → ts ≡ set ss i Empty
-        → Holed n ts i × Written n ss ts k None × (size ts + 1 ≡ size ss)
-    emptied ts k w i lt old is =
+    pub emptied : (k : Key) (i : ℕ) → i < n → Has (slot_at ss i) k → Emptied n ss (set ss i Empty) k i
+    emptied k i lt has =
         let l : i < length ss = omega arith in
-        let e = put_empty k w i lt old in
-        subst (λ (x : List (Slot V)). Holed n x i × Written n ss x k None × (size x + 1 ≡ size ss)) (sym is) (
-          record {
-            long = e.0.long;
-            distinct = e.0.distinct;
+        let e = put_empty k has.0 i lt has.1 in
+        record {
+          holed = record {
+            distinct = e.distinct;
             inside = lt;
             bare = get_or-set_same ss i Empty Empty l;
             reached = only l;
-          },
-          e.0,
-          e.1,
-        )
+          };
+          becomes = e.becomes;
+          counted = omega (arith, size_set ss i Empty l, ap filled has.1);
+        }
       where
         only :
             i < length ss → (c : Cut n (set ss i Empty)) → slot_ahead n (home_slot n c.0) c.2 ≡ i
@@ -177,17 +176,3 @@ module _ {V : Type 0} (n : ℕ) (ss : List (Slot V)) (len : length ss ≡ n) (di
             (λ (p' : slot_at ss (slot_ahead n (home_slot n q) e) ≡ Full q v). absurd (re (q, v, d, e, en, p', de, z')))
             (was ss i Empty (slot_ahead n (home_slot n q) e) (Full q v) l p))
             (was ss i Empty (slot_ahead n (home_slot n q) d) Empty l z)
-
-    -- then the hole is closed
-    pub removed :
-        (ts us : List (Slot V)) (k : Key) (i : ℕ) → i < n → Has (slot_at ss i) k → ts ≡ set ss i Empty → Sound n us → Alike ts us
-        → Becomes n ss us k None × (size us + 1 ≡ size ss)
-    removed ts us k i lt has is sound alike =
-        let e = emptied ts k has.0 i lt has.1 is in (
-          record {
-            sound = sound;
-            here = alike.lookup k ∙ e.1.here;
-            other = λ q ne. alike.lookup q ∙ e.1.other q ne;
-          },
-          omega (arith, e.2, alike.size),
-        )

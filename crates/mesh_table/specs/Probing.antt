@@ -4,26 +4,35 @@
 --     slot_ahead n h d   the slot d steps on from h, round a ring of n slots
 --     Distinct ss        no key stands twice
 --     Reached n ss       no empty slot stands between a record and its home
-use Rattle.std.specs.Prelude.{◌≡◌, ℕ, ◌+◌, ◌-◌, ◌*◌, ◌/◌, ◌^◌, ◌<◌, true, cond, List, [], ◌∷◌, length, is_some, Some, None, Option, ◌≢◌, nat_lt, slice_index_or}
+use Rattle.std.specs.Prelude.{◌≡◌, ℕ, ◌+◌, ◌-◌, ◌*◌, ◌/◌, ◌^◌, ◌<◌, true, cond, List, [], ◌∷◌, is_some, Some, None, Option, ◌≢◌, ◌⊎◌, nat_lt, slice_index_or}
 use Rattle.mesh_table.specs.declared.key.Key.{Key}
-use Rattle.mesh_table.specs.declared.slots.Slot.{Slot}
-use Rattle.mesh_table.specs.declared.slots.Slot.TheVariants.{Empty, Full}
-use Rattle.mesh_table.specs.declared.slots.Probe.{Probe}
-use Rattle.mesh_table.specs.declared.slots.Probe.TheVariants.{Found, Vacant, Exhausted}
+use Rattle.mesh_table.specs.declared.ring.Record.{Record}
+use Rattle.mesh_table.specs.declared.ring.Probe.{Probe}
+use Rattle.mesh_table.specs.declared.ring.Probe.TheVariants.{Found, Vacant, Exhausted}
 use Rattle.mesh_table.specs.Keys.{same_key, spread}
+
+-- A slot has a record, or is empty.
+abbrev pub Slot : Type 0 → Type 0
+Slot V = Option (Record V)
+
+abbrev pub Empty : {V : Type 0} → Slot V
+Empty = None
+
+abbrev pub Full : {V : Type 0} → Key → V → Slot V
+Full k v = Some (record { key = k; value = v })
 
 -- The value in a slot of key k, or else o.
 abbrev pub pick : {V : Type 0} → Slot V → Key → Option V → Option V
-pick Empty k o = o
-pick (Full j v) k o = cond (same_key j k) (Some v) o
+pick None k o = o
+pick (Some r) k o = cond (same_key r.key k) (Some r.value) o
 
 abbrev pub lookup : {V : Type 0} → List (Slot V) → Key → Option V
 lookup [] k = None
 lookup (s ∷ ss) k = pick s k (lookup ss k)
 
 abbrev pub filled : {V : Type 0} → Slot V → ℕ
-filled Empty = 0
-filled (Full k v) = 1
+filled None = 0
+filled (Some r) = 1
 
 abbrev pub size : {V : Type 0} → List (Slot V) → ℕ
 size [] = 0
@@ -34,8 +43,8 @@ abbrev pub slot_at : {V : Type 0} → List (Slot V) → ℕ → Slot V
 slot_at ss i = slice_index_or ss i Empty
 
 abbrev pub value_in : {V : Type 0} → Slot V → Option V
-value_in Empty = None
-value_in (Full k v) = Some v
+value_in None = None
+value_in (Some r) = Some r.value
 
 abbrev pub slot_ahead : ℕ → ℕ → ℕ → ℕ
 slot_ahead n h d = cond (nat_lt (h + d) n) (h + d) (h + d - n)
@@ -73,8 +82,8 @@ Has {V} s k = (v : V) × (s ≡ Full k v)
 
 -- A slot that a search for k goes past: it is full, of another key.
 abbrev pub Foreign : {V : Type 0} → Slot V → Key → Type 0
-Foreign Empty k = ⊥
-Foreign (Full j v) k = j ≡ k → ⊥
+Foreign None k = ⊥
+Foreign (Some r) k = r.key ≡ k → ⊥
 
 -- The first d slots that a search for k comes to.
 abbrev pub Passed : {V : Type 0} → ℕ → List (Slot V) → Key → ℕ → Type 0
@@ -97,17 +106,28 @@ Probed n ss k Exhausted = Passed n ss k n
 
 -- Slots that may be searched.
 pub record Sound {V : Type 0} (n : ℕ) (ss : List (Slot V)) : Type 0 where
-  pub long : length ss ≡ n
   pub distinct : Distinct ss
   pub reached : Reached n ss
 
 -- Slots that may be searched but for an empty slot, the hole, that may stand between a record and its home.
 pub record Holed {V : Type 0} (n : ℕ) (ss : List (Slot V)) (hole : ℕ) : Type 0 where
-  pub long : length ss ≡ n
   pub distinct : Distinct ss
   pub inside : hole < n
   pub bare : slot_at ss hole ≡ Empty
   pub reached : (c : Cut n ss) → slot_ahead n (home_slot n c.0) c.2 ≡ hole
+
+-- The record in slot i, which the hole cuts off from its home.
+pub record CutOff {V : Type 0} (n : ℕ) (ss : List (Slot V)) (hole i : ℕ) : Type 0 where
+  pub inside : i < n
+  pub key : Key
+  pub value : V
+  pub here : slot_at ss i ≡ Full key value
+  pub before : steps_between n (home_slot n key) hole < steps_between n (home_slot n key) i
+
+-- What the hole cuts off: the record in a slot, or nothing.
+abbrev pub Behind : {V : Type 0} → ℕ → List (Slot V) → ℕ → Option ℕ → Type 0
+Behind n ss hole None = Sound n ss
+Behind n ss hole (Some i) = CutOff n ss hole i
 
 -- The same records, wherever they stand.
 pub record Alike {V : Type 0} (ss ts : List (Slot V)) : Type 0 where
@@ -115,8 +135,7 @@ pub record Alike {V : Type 0} (ss ts : List (Slot V)) : Type 0 where
   pub lookup : (q : Key) → lookup ts q ≡ lookup ss q
 
 -- ts is ss, with w at k.
-pub record Becomes {V : Type 0} (n : ℕ) (ss ts : List (Slot V)) (k : Key) (w : Option V) : Type 0 where
-  pub sound : Sound n ts
+pub record Becomes {V : Type 0} (ss ts : List (Slot V)) (k : Key) (w : Option V) : Type 0 where
   pub here : lookup ts k ≡ w
   pub other : (q : Key) → (q ≢ k) → lookup ts q ≡ lookup ss q
 
@@ -125,3 +144,7 @@ abbrev pub Sought : {V : Type 0} → ℕ → List (Slot V) → Key → Probe →
 Sought n ss k (Found i) = (i < n) × Has (slot_at ss i) k × (lookup ss k ≡ value_in (slot_at ss i)) × (is_some (lookup ss k) ≡ true)
 Sought n ss k (Vacant i) = Vacancy n ss k i × (lookup ss k ≡ None)
 Sought n ss k Exhausted = (lookup ss k ≡ None) × (size ss ≡ n)
+
+-- A search for k ends at slot i.
+abbrev pub EndsAt : {V : Type 0} → ℕ → List (Slot V) → Key → ℕ → Type 0
+EndsAt n ss k i = Sought n ss k (Found i) ⊎ Sought n ss k (Vacant i)

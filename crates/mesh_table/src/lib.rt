@@ -2,5 +2,6 @@
 #![tactic(auto)]
 
 pub mod key;
+mod ring;
 mod slots;
 pub mod table;

@@ -1,5 +1,5 @@
-ghost use Rattle.std.specs.Prelude.{◌≡◌, ◌^◌, ◌<◌, ◌≤◌, length};
-ghost use Rattle.mesh_table.specs.Probing.{size, Distinct, Reached};
+ghost use Rattle.std.specs.Prelude.{◌≡◌, ◌≤◌};
+ghost use Rattle.mesh_table.specs.Probing.{size};
 
 use crate::slots::Slots;
 
@@ -15,10 +15,7 @@ pub struct Table<V, const N: usize> {
     slots: Slots<V, N>,
     count: usize,
     limit: usize,
-    ghost within: { (0 < N) × (N < 2 ^ 32) × (length slots.array ≡ N) },
-    ghost counted: { (size slots.array ≡ count) × (count ≤ limit) × (limit ≤ N) },
-    ghost distinct: { Distinct slots.array },
-    ghost reached: { Reached N slots.array },
+    ghost counted: { (size slots.ring.array ≡ count) × (count ≤ limit) × (limit ≤ N) },
 }
 
 // Why a record is not taken in.

@@ -3,7 +3,7 @@
 //     table_bench ROUNDS   prints also the nanoseconds of an operation in the first and in the last tenth of the rounds
 #![tactic(auto)]
 
-use anyhow::anyhow;
+use anyhow::{Context, anyhow};
 use mesh_table::key::Key;
 use mesh_table::table::Table;
 use std::env;
@@ -50,11 +50,8 @@ struct Window {
 
 impl Window {
     fn new() -> anyhow::Result<Window> {
-        let Some(table) = Table::new(1024) else {
-            return Err(anyhow!("the table has too few slots"));
-        };
         let mut window = Window {
-            table,
+            table: Table::new(1024).context("the table has too few slots")?,
             next: 0,
             checksum: 0,
         };
@@ -66,9 +63,9 @@ impl Window {
 
     fn add_next(&mut self) -> anyhow::Result<()> {
         let vertex = Vertex::numbered(self.next);
-        if self.table.insert(Key::vertex(self.next), vertex).is_err() {
-            return Err(anyhow!("a vertex is not taken in"));
-        }
+        self.table
+            .insert(Key::vertex(self.next), vertex)
+            .map_err(|_| anyhow!("a vertex is not taken in"))?;
         self.next = self.next.wrapping_add(1);
         Ok(())
     }

@@ -4,10 +4,7 @@ use std::process::Abort;
 use std::test::Fail;
 
 fn table_of_8(limit: usize) -> Result<Table<u32, 8>, Fail> {
-    match Table::new(limit) {
-        Some(table) => Ok(table),
-        None => Err(Fail::new("no table")),
-    }
+    Table::new(limit).ok_or_else(|| Fail::new("no table"))
 }
 
 // The home of a vertex among 8 slots: the highest three bits of its key's spread.
@@ -38,7 +35,7 @@ fn check_found(rt: &impl Abort, table: &Table<u32, 8>, numbers: &[u32]) {
     }
 }
 
-// After each removal the others are still there.
+// After each removal the others are still there. By places, since a loop over what is left needs a measure of its own.
 fn remove_in_order(rt: &impl Abort, table: &mut Table<u32, 8>, numbers: &[u32]) {
     for (i, number) in numbers.iter().enumerate() {
         check_found(rt, table, &numbers[i..]);

@@ -1,4 +1,5 @@
 ghost use Rattle.std.specs.Prelude.{◌≡◌, ℕ, ◌&&◌};
+ghost use Rattle.std.specs.Result.{result_err};
 ghost use Rattle.mesh_stream.specs.Ranges.{coordinate, in_space, vertex_number};
 ghost use Rattle.mesh_stream.specs.declared.event.Event.TheVariants.{Vertex};
 ghost use Rattle.mesh_judge.specs.Windows.{refuses, end_by};
@@ -17,7 +18,7 @@ const TRIANGLES: u32 = 100_000_000;
 fn is_coordinate(z: i32) -> bool
     ensures { result ≡ coordinate z }
 {
-    z >= -100_000 && z <= 100_000
+    (-100_000..=100_000).contains(&z)
 }
 
 fn is_in_space(at: Point) -> bool
@@ -29,7 +30,7 @@ fn is_in_space(at: Point) -> bool
 fn is_vertex_number(number: u32) -> bool
     ensures { result ≡ vertex_number number }
 {
-    number >= 1 && number <= 100_000_000
+    (1..=100_000_000).contains(&number)
 }
 
 fn in_range(number: u32, at: Point) -> bool
@@ -57,35 +58,31 @@ impl<T: Copy> Judge<T> {
     pub fn live_count(&self) -> u32
         ensures { result ≡ (window_of self.now).live_count }
     {
-        self.live.len() as u32
+        u32::try_from(self.live.len()).unwrap()
     }
 
-    // Why a vertex is not accepted, if it is not.
-    fn vertex_refusal(&self, number: u32, at: Point) -> Option<Cause>
-        ensures { (p : ℕ) → refuses (live_limit self.now) (window_of self.now) (Vertex p number at) ≡ result }
+    // Whether a vertex is accepted, or why not.
+    fn check_vertex(&self, number: u32, at: Point) -> Result<(), Cause>
+        ensures { (p : ℕ) → refuses (live_limit self.now) (window_of self.now) (Vertex p number at) ≡ result_err result }
     {
         if !in_range(number, at) {
-            return Some(Cause::OutOfRange);
+            return Err(Cause::OutOfRange);
         }
         if number <= self.highest {
-            return Some(Cause::NotRising);
+            return Err(Cause::NotRising);
         }
         if self.live.len() >= self.live.limit() {
-            return Some(Cause::TooManyLive);
+            return Err(Cause::TooManyLive);
         }
-        None
+        Ok(())
     }
 
     // Accepts a vertex, or says why not.
     pub fn vertex(&mut self, number: u32, vertex: Live<T>) -> Result<(), Cause>
         ensures { Entered self.old number vertex result self.new }
     {
-        if let Some(cause) = self.vertex_refusal(number, vertex.at) {
-            return Err(cause);
-        }
-        let Ok(()) = self.live.insert(Key::vertex(number), vertex) else {
-            unreachable()
-        };
+        self.check_vertex(number, vertex.at)?;
+        self.live.insert(Key::vertex(number), vertex).unwrap();
         self.highest = number;
         Ok(())
     }
@@ -94,10 +91,9 @@ impl<T: Copy> Judge<T> {
     fn corner(&self, number: u32) -> Result<Live<T>, Cause>
         ensures { CornerFound ((window_of self.now).at number) result }
     {
-        match self.live.find(Key::vertex(number)) {
-            Some(vertex) => Ok(vertex),
-            None => Err(Cause::CornerNotLive),
-        }
+        self.live
+            .find(Key::vertex(number))
+            .ok_or(Cause::CornerNotLive)
     }
 
     // What is kept of a triangle's corners, if all three are live.
@@ -142,10 +138,7 @@ impl<T: Copy> Judge<T> {
     pub fn finalization(&mut self, vertex: u32) -> Result<Live<T>, Cause>
         ensures { Left self.old vertex result self.new }
     {
-        match self.take_out(vertex) {
-            Some(gone) => Ok(gone),
-            None => Err(Cause::NotLive),
-        }
+        self.take_out(vertex).ok_or(Cause::NotLive)
     }
 
     // How it stands, under this name, over a stage all of whose events it accepted.
@@ -154,8 +147,7 @@ impl<T: Copy> Judge<T> {
     {
         match below {
             Standing::Ended => end_by(layer, self.live.lowest_vertex(self.highest)),
-            Standing::Waiting => Standing::Waiting,
-            Standing::Faulty(fault) => Standing::Faulty(fault),
+            Standing::Waiting | Standing::Faulty(_) => below,
         }
     }
 }

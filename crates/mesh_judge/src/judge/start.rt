@@ -9,10 +9,7 @@ use mesh_table::table::Table;
 fn no_vertices<T: Copy>() -> Table<Live<T>, SLOTS>
     ensures { Empty 1024 result }
 {
-    let Some(live) = Table::new(LIVE_LIMIT) else {
-        unreachable()
-    };
-    live
+    Table::new(LIVE_LIMIT).unwrap()
 }
 
 impl<T: Copy> Judge<T> {

@@ -1,42 +1,44 @@
-ghost use Rattle.std.specs.Prelude.{◌≡◌, ◌^◌, ◌<◌, length};
+ghost use Rattle.std.specs.Prelude.{◌≡◌};
 ghost use Rattle.mesh_table.specs.Probing.{Distinct};
-ghost use Rattle.mesh_table.specs.LowestVertex.{better, LowestIn};
+ghost use Rattle.mesh_table.specs.LowestVertex.{lower, LowestIn};
 
-use crate::slots::{Slot, Slots};
+use crate::ring::Record;
+use crate::slots::Slots;
 
-// The lowest vertex number so far, and its record; with none so far, the highest number that would do.
-#[derive(Clone, Copy)]
-struct Candidate<V> {
-    number: u32,
-    found: Option<V>,
+// What has the lower vertex number up to `most`: the slot, or the lowest record so far.
+fn lower<V: Copy>(
+    slot: Option<Record<V>>,
+    lowest: Option<Record<V>>,
+    most: u32,
+) -> Option<Record<V>>
+    ensures { result ≡ lower slot lowest most }
+{
+    let bound = match &lowest {
+        Some(record) => record.key.first,
+        None => most,
+    };
+    match &slot {
+        Some(record) if record.key.second == 0 && record.key.first <= bound => slot,
+        _ => lowest,
+    }
 }
 
-fn better_of<V: Copy>(slot: Slot<V>, best: Candidate<V>) -> Candidate<V>
-    ensures { result ≡ better slot best }
+fn lowest_of<V: Copy>(slots: &[Option<Record<V>>], most: u32) -> Option<V>
+    requires { Distinct slots.now }
+    ensures { LowestIn slots.now most result }
 {
-    match slot {
-        Slot::Full { key, value } if key.second == 0 && key.first <= best.number => Candidate {
-            number: key.first,
-            found: Some(value),
-        },
-        _ => best,
+    let mut lowest = None;
+    for slot in slots {
+        lowest = lower(*slot, lowest, most);
     }
+    Some(lowest?.value)
 }
 
 impl<V: Copy, const N: usize> Slots<V, N> {
     // The value at the lowest vertex number up to `most` that has one.
     pub(crate) fn lowest_vertex(&self, most: u32) -> Option<V>
-        requires within { (N < 2 ^ 32) × (length self.now.array ≡ N) }
-        requires distinct { Distinct self.now.array }
-        ensures { LowestIn self.now.array most result }
+        ensures { LowestIn self.now.ring.array most result }
     {
-        let mut best = Candidate {
-            number: most,
-            found: None,
-        };
-        for i in 0..N {
-            best = better_of(self.slot(i), best);
-        }
-        best.found
+        lowest_of(&self.ring.array, most)
     }
 }

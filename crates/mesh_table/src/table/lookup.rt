@@ -2,7 +2,7 @@ ghost use Rattle.std.specs.Prelude.{◌≡◌};
 ghost use Rattle.mesh_table.specs.Tables.{record_at, records, limit_of, Lowest};
 
 use crate::key::Key;
-use crate::slots::Probe;
+use crate::ring::Probe;
 use crate::table::Table;
 
 impl<V: Copy, const N: usize> Table<V, N> {

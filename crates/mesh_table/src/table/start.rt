@@ -9,7 +9,7 @@ impl<V: Copy, const N: usize> Table<V, N> {
     pub fn new(limit: usize) -> Option<Table<V, N>>
         ensures { Made limit result }
     {
-        if N == 0 || N > 0xffff_ffff || limit > N {
+        if N == 0 || N > u32::MAX as usize || limit > N {
             return None;
         }
         Some(Table {

@@ -1,7 +1,7 @@
 ghost use Rattle.mesh_table.specs.Tables.{Inserted, Changed, Removed};
 
 use crate::key::Key;
-use crate::slots::Probe;
+use crate::ring::Probe;
 use crate::table::{InsertError, Table};
 
 impl<V: Copy, const N: usize> Table<V, N> {
@@ -12,7 +12,7 @@ impl<V: Copy, const N: usize> Table<V, N> {
         match self.slots.seek(key) {
             Probe::Found(_) => Err(InsertError::KeyPresent),
             Probe::Vacant(i) if self.count < self.limit => {
-                self.slots.fill(i, key, value);
+                self.slots.set(i, key, value);
                 self.count += 1;
                 Ok(())
             }
@@ -26,11 +26,10 @@ impl<V: Copy, const N: usize> Table<V, N> {
     {
         match self.slots.seek(key) {
             Probe::Found(i) => {
-                self.slots.overwrite(i, key, value);
+                self.slots.set(i, key, value);
                 true
             }
-            Probe::Vacant(_) => false,
-            Probe::Exhausted => false,
+            Probe::Vacant(_) | Probe::Exhausted => false,
         }
     }
 

@@ -1,13 +1,10 @@
-use Rattle.mesh_judge.proofs.Judging.{left, not_left}
+use Rattle.std.proofs.Common.{sym, subst}
+use Rattle.mesh_judge.specs.Judging.{Left}
+use Rattle.mesh_judge.proofs.Judging.{finalized}
 use Rattle.mesh_judge.proofs.judge.Judge.finalization.Goals as goal
 
-pub returns-in-Some : goal.returns-in-Some
-returns-in-Some g c =
+pub returns : goal.returns
+returns g c =
     let j = c.args.self.now in
     let k = c.take_out.new.self in
-    let t = c.in-Some.ensures in
-    let l = left j k 0 c.args.vertex c.in-Some.gone t in
-    ((λ p. (left j k p c.args.vertex c.in-Some.gone t).0), l.1, l.2)
-
-pub returns-in-None : goal.returns-in-None
-returns-in-None g c p = not_left c.args.self.now c.take_out.new.self p c.args.vertex c.in-None.ensures
+    subst (λ r. Left j c.args.vertex r k) (sym c.ok_or.ensures.value) (finalized j k c.args.vertex c.take_out.result c.take_out.ensures)

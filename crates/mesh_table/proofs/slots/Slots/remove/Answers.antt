@@ -1,28 +1,24 @@
-use Rattle.std.proofs.Common.{◌+◌, cond, is_some, Option, sym, ap, ◌∙◌, rules}
-use Rattle.mesh_table.specs.Probing.{size}
-use Rattle.mesh_table.proofs.Writes.{emptied, removed}
+use Rattle.std.proofs.Common.{ℕ, cond, List, is_some, sym, ap, ◌∙◌, subst, arith, rules}
+use Rattle.mesh_table.specs.Probing.{Slot}
+use Rattle.mesh_table.proofs.Writes.{Emptied, emptied, becomes_alike}
 use Rattle.mesh_table.proofs.slots.Slots.remove.Goals as goal
 
-pub close_up-requires : goal.close_up-requires
-close_up-requires g c =
-    let s = c.requires.sound in
+taken : (g : _) (c : goal.After-close_up-arg-1 g) → Emptied g.row.N c.args.self.now.ring.array c.put.new.self.array c.args.key c.in-Found.i
+taken g c =
+    let s = c.args.self.now in
+    let n = g.row.N in
     let found = c.in-Found.ensures in
-    let e =
-    emptied g.row.N c.args.self.now.array s.long s.distinct c.requires.within.0 s.reached c.put.new.self.array
-    c.args.key found.1.0 c.in-Found.i found.0 found.1.1 c.put.ensures in
-    (search rules, (c.requires.within.1, e.0))
+    subst (λ (x : List (Slot g.row.V.Denot)). Emptied n s.ring.array x c.args.key c.in-Found.i) (sym c.put.ensures)
+    (emptied n s.ring.array s.ring.long s.sound.distinct s.ring.some s.sound.reached c.args.key c.in-Found.i found.0 found.1)
 
-pub returns-in-Found : goal.returns-in-Found
-returns-in-Found g c =
-    let s = c.requires.sound in
+pub close_up-requires : goal.close_up-requires
+close_up-requires g c = (search rules, (taken g c).holed)
+
+pub returns-in-Found-clause-becomes : goal.returns-in-Found-clause-becomes
+returns-in-Found-clause-becomes g c = becomes_alike (taken g c.before.before).becomes c.close_up.ensures.alike
+
+pub returns-in-Found-clause-counted : goal.returns-in-Found-clause-counted
+returns-in-Found-clause-counted g c =
     let found = c.in-Found.ensures in
-    let us = c.close_up.new.self.array in
-    let r =
-    removed g.row.N c.args.self.now.array s.long s.distinct c.requires.within.0 s.reached c.put.new.self.array us
-    c.args.key c.in-Found.i found.0 found.1 c.put.ensures c.close_up.ensures.sound c.close_up.ensures.alike in
-    let value = c.value-old.ensures ∙ sym found.2 in
-    record {
-      value = value;
-      becomes = r.0;
-      counted = ap (λ (x : Option g.row.V.Denot). size us + cond (is_some x) 1 0) value ∙ ap (λ b. size us + cond b 1 0) found.3 ∙ r.1;
-    }
+    let there = ap is_some (c.value-value.ensures ∙ sym found.2) ∙ found.3 in
+    omega (arith, c.close_up.ensures.alike.size, (taken g c.before.before).counted, ap (λ b. cond {A = ℕ} b 1 0) there)
