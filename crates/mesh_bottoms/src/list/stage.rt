@@ -1,5 +1,5 @@
 ghost use Rattle.mesh_stream.specs.Meaning.{textless};
-ghost use Rattle.mesh_bottoms.specs.Listing.{listed_from};
+ghost use Rattle.mesh_bottoms.specs.Listing.{listed_on};
 ghost use Rattle.mesh_bottoms.specs.Fixed.{ended_lawful};
 
 use crate::list::ListStage;
@@ -9,18 +9,18 @@ use mesh_stream::stage::{Answer, Stage, Standing};
 impl Stage for ListStage<'_> {
     type Item = Event;
 
-    ghost meaning = { λ l t m. listed_from l.given l.records.now };
+    ghost meaning = { λ l t m. listed_on l.given l.records.now };
 
     ghost port = { λ l. textless };
 
-    ghost lawful = { λ l. ended_lawful (listed_from l.given l.records.now).items };
+    ghost lawful = { λ l. ended_lawful (listed_on l.given l.records.now).items };
 
     fn next(&mut self) -> Answer<Event> {
-        if self.is_done() {
+        let [record, rest @ ..] = self.records else {
             return Answer::Idle(Standing::Ended);
-        }
-        let event = self.records[self.given as usize].placed_at(self.place());
+        };
+        self.records = rest;
         self.given += 1;
-        Answer::Item(event)
+        Answer::Item(record.placed_at(self.given))
     }
 }
