@@ -4,7 +4,9 @@ ghost use Rattle.mesh_bottoms.specs.Starting.{Made};
 ghost use Rattle.mesh_bottoms.specs.contracts.grid.stage.GridStage.TheImpl.{ghosts as gridding};
 
 use crate::grid::Grid;
+use crate::grid::cursor::Cursor;
 use crate::grid::part::Part;
+use crate::grid::position::Position;
 use mesh_stream::fault::Refusal;
 
 // Whether the settings are allowed. The products are of 64 bits, which hold them at every setting.
@@ -29,15 +31,18 @@ impl Grid {
         if !allows(columns, rows, step) {
             return Err(Refusal::SettingNotAllowed);
         }
-        Ok(Grid {
+        let position = Position {
             columns,
             rows,
             step,
             row: 0,
             column: 0,
-            number: 1,
+        };
+        let first = Cursor {
+            position,
             part: Part::NewVertex,
             place: 1,
-        })
+        };
+        Ok(Grid { next: Some(first) })
     }
 }

@@ -1,13 +1,14 @@
-ghost use Rattle.std.specs.Prelude.{◌≡◌, ◌-◌, ◌*◌, ◌<◌, ◌≤◌, pos};
+ghost use Rattle.std.specs.Prelude.{◌≡◌, ◌+◌, ◌-◌, ◌*◌, ◌≤◌, ◌∷◌, ◌==◌, pos};
 ghost use Rattle.mesh_stream.specs.declared.event.Event.TheVariants.{Triangle, Finalization};
-ghost use Rattle.mesh_bottoms.specs.Walking.{turn};
-ghost use Rattle.mesh_bottoms.specs.Steps.{event_of, Followed, Moved, Advanced};
+ghost use Rattle.mesh_bottoms.specs.Walking.{number_at};
+ghost use Rattle.mesh_bottoms.specs.Steps.{number_of, event_of, events_from, PartFollows, PositionFollows};
 
-use crate::grid::Grid;
+use crate::grid::cursor::Cursor;
 use crate::grid::part::Part;
+use crate::grid::position::Position;
 use mesh_stream::event::{Event, Point};
 
-impl Grid {
+impl Position {
     // How far so many steps lead.
     fn coordinate(&self, steps: u32) -> i32
         requires { steps * self.now.step ≤ 100000 }
@@ -16,9 +17,8 @@ impl Grid {
         (steps * self.step) as i32
     }
 
-    // Where the vertex of this position stands.
+    // Where its vertex stands.
     fn point(&self) -> Point
-        requires { self.now.row < self.now.rows }
         ensures { result ≡ record { x = pos (self.now.column * self.now.step); y = pos (self.now.row * self.now.step); z = pos 0 } }
     {
         Point {
@@ -28,15 +28,53 @@ impl Grid {
         }
     }
 
-    // The number of the vertex in the same column of the row before.
-    fn above(&self) -> u32
-        requires { 1 ≤ turn self.now.part }
-        ensures number { result ≡ self.now.number - self.now.columns }
-        ensures low { 2 ≤ result }
+    // The number of its vertex.
+    fn number(&self) -> u32
+        ensures { result ≡ number_of self.now }
     {
-        self.number - self.columns
+        self.row * self.columns + self.column + 1
     }
 
+    // The number of the vertex in the same column of the row before.
+    fn above(&self) -> u32
+        requires { 1 ≤ self.now.row }
+        ensures number { result ≡ number_of self.now - self.now.columns }
+        ensures low { 1 + self.now.column ≤ result }
+    {
+        self.number() - self.columns
+    }
+
+    fn in_last_column(&self) -> bool
+        ensures { result ≡ self.now.column == self.now.columns - 1 }
+    {
+        self.column == self.columns - 1
+    }
+
+    fn in_last_row(&self) -> bool
+        ensures { result ≡ self.now.row == self.now.rows - 1 }
+    {
+        self.row == self.rows - 1
+    }
+
+    // The position that comes next, if one does.
+    #[tactic(auto, using(crate::proofs::Positions::next_column))]
+    fn after(mut self) -> Option<Position>
+        ensures { PositionFollows self result }
+    {
+        if !self.in_last_column() {
+            self.column += 1;
+            Some(self)
+        } else if !self.in_last_row() {
+            self.row += 1;
+            self.column = 0;
+            Some(self)
+        } else {
+            None
+        }
+    }
+}
+
+impl Cursor {
     // A triangle with these corners.
     fn triangle(&self, a: u32, b: u32, c: u32) -> Event
         ensures { result ≡ Triangle self.now.place a b c }
@@ -59,22 +97,22 @@ impl Grid {
         }
     }
 
-    // The event at hand.
-    pub(super) fn event(&self) -> Event
-        requires { self.now.row < self.now.rows }
+    // The event itself.
+    pub fn event(&self) -> Event
         ensures { result ≡ event_of self.now }
     {
-        let n = self.number;
+        let at = &self.position;
+        let n = at.number();
         match self.part {
             Part::NewVertex => Event::Vertex {
                 place: self.place,
                 number: n,
-                at: self.point(),
+                at: at.point(),
             },
-            Part::FirstTriangle => self.triangle(self.above() - 1, self.above(), n),
-            Part::SecondTriangle => self.triangle(self.above() - 1, n, n - 1),
-            Part::FinalizationOfP => self.finalization(self.above() - 1),
-            Part::FinalizationOfQ => self.finalization(self.above()),
+            Part::FirstTriangle => self.triangle(at.above() - 1, at.above(), n),
+            Part::SecondTriangle => self.triangle(at.above() - 1, n, n - 1),
+            Part::FinalizationOfP => self.finalization(at.above() - 1),
+            Part::FinalizationOfQ => self.finalization(at.above()),
             Part::FinalizationOfM => self.finalization(n - 1),
             Part::FinalizationOfN => self.finalization(n),
         }
@@ -82,13 +120,13 @@ impl Grid {
 
     // The part that comes next at this position, if one does.
     fn part_after(&self) -> Option<Part>
-        requires { self.now.row < self.now.rows }
-        ensures { Followed self.now result }
+        ensures { PartFollows self.now result }
     {
-        let last_column = self.column == self.columns - 1;
-        let last_row = self.row == self.rows - 1;
+        let at = &self.position;
+        let last_column = at.in_last_column();
+        let last_row = at.in_last_row();
         match self.part {
-            Part::NewVertex if self.row >= 1 && self.column >= 1 => Some(Part::FirstTriangle),
+            Part::NewVertex if at.row >= 1 && at.column >= 1 => Some(Part::FirstTriangle),
             Part::FirstTriangle => Some(Part::SecondTriangle),
             Part::SecondTriangle => Some(Part::FinalizationOfP),
             Part::FinalizationOfP if last_column => Some(Part::FinalizationOfQ),
@@ -100,33 +138,18 @@ impl Grid {
         }
     }
 
-    // Goes to the first part of the next position.
-    fn next_position(&mut self)
-        requires { self.old.row < self.old.rows }
-        ensures { Moved self.old self.new }
+    // The event behind it, if one is left.
+    pub fn after(self) -> Option<Cursor>
+        ensures { events_from (Some self) ≡ event_of self ∷ events_from result }
     {
-        if self.column + 1 < self.columns {
-            self.column += 1;
-        } else {
-            self.column = 0;
-            self.row += 1;
-        }
-        self.number += 1;
-        self.part = Part::NewVertex;
-        self.place += 1;
-    }
-
-    // Goes to the next event.
-    pub(super) fn advance(&mut self)
-        requires { self.old.row < self.old.rows }
-        ensures { Advanced self.old self.new }
-    {
-        match self.part_after() {
-            Some(part) => {
-                self.part = part;
-                self.place += 1;
-            }
-            None => self.next_position(),
-        }
+        let (position, part) = match self.part_after() {
+            Some(part) => (self.position, part),
+            None => (self.position.after()?, Part::NewVertex),
+        };
+        Some(Cursor {
+            position,
+            part,
+            place: self.place + 1,
+        })
     }
 }
