@@ -2,10 +2,10 @@
 use Rattle.std.specs.Prelude.{◌≡◌, ℕ, ◌+◌, List, [], Some, None, Option}
 use Rattle.mesh_stream.specs.declared.event.Event.{Event}
 use Rattle.mesh_stream.specs.Events.{placed}
-use Rattle.mesh_bottoms.specs.declared.grid.cursor.Cursor.{Cursor}
+use Rattle.mesh_bottoms.specs.declared.grid.Cursor.{Cursor}
 use Rattle.mesh_bottoms.specs.declared.grid.part.Part.{Part}
 use Rattle.mesh_bottoms.specs.declared.grid.part.Part.TheVariants.{NewVertex}
-use Rattle.mesh_bottoms.specs.declared.grid.position.Position.{Position}
+use Rattle.mesh_bottoms.specs.declared.grid.Position.{Position}
 use Rattle.mesh_bottoms.specs.Placing.{in_places}
 use Rattle.mesh_bottoms.specs.Walking.{number_at, part_event, Follows, behind, grid_left}
 

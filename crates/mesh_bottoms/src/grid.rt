@@ -1,15 +1,42 @@
-use crate::grid::cursor::Cursor;
+ghost use Rattle.std.specs.Prelude.{◌≡◌, ◌+◌, ◌*◌, ◌<◌, ◌≤◌, min, true};
+ghost use Rattle.mesh_bottoms.specs.Gridding.{grid_allowed};
+ghost use Rattle.mesh_bottoms.specs.Walking.{turn, number_at};
 
-mod cursor;
+use crate::grid::part::Part;
+
 mod part;
-mod position;
 pub mod stage;
 mod start;
 mod walk;
 
-// A flat mesh over the positions of a grid, row by row. It keeps nothing but where it stands.
+// A flat mesh over the positions of a grid, row by row. It keeps nothing but what it hands over next.
 #[derive(Drop)]
 pub struct Grid {
     // nothing once everything is handed over
     next: Option<Cursor>,
+}
+
+// An event of the grid: the position at which it comes, which one of that position it is, and its place.
+#[derive(Clone, Copy)]
+struct Cursor {
+    position: Position,
+    part: Part,
+    place: u32,
+    // in the first row and the first column only the vertex comes
+    ghost inner: { (min (turn part) 1 ≤ position.row) × (min (turn part) 1 ≤ position.column) },
+    // no position has more than 7 events
+    ghost seven: { place + 6 ≤ 7 * number_at position.columns position.row position.column + turn part },
+}
+
+// A position of the grid with these settings. Its row and column are counted from 0.
+#[derive(Clone, Copy)]
+struct Position {
+    columns: u32,
+    rows: u32,
+    step: u32,
+    row: u32,
+    column: u32,
+    ghost allowed: { grid_allowed columns rows step ≡ true },
+    ghost row_within: { row < rows },
+    ghost column_within: { column < columns },
 }

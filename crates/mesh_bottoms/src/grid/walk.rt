@@ -1,29 +1,18 @@
 ghost use Rattle.std.specs.Prelude.{◌≡◌, ◌+◌, ◌-◌, ◌*◌, ◌≤◌, ◌∷◌, ◌==◌, pos};
-ghost use Rattle.mesh_stream.specs.declared.event.Event.TheVariants.{Triangle, Finalization};
-ghost use Rattle.mesh_bottoms.specs.Walking.{number_at};
 ghost use Rattle.mesh_bottoms.specs.Steps.{number_of, event_of, events_from, PartFollows, PositionFollows};
 
-use crate::grid::cursor::Cursor;
 use crate::grid::part::Part;
-use crate::grid::position::Position;
+use crate::grid::{Cursor, Position};
 use mesh_stream::event::{Event, Point};
 
 impl Position {
-    // How far so many steps lead.
-    fn coordinate(&self, steps: u32) -> i32
-        requires { steps * self.now.step ≤ 100000 }
-        ensures { result ≡ pos (steps * self.now.step) }
-    {
-        (steps * self.step) as i32
-    }
-
     // Where its vertex stands.
     fn point(&self) -> Point
         ensures { result ≡ record { x = pos (self.now.column * self.now.step); y = pos (self.now.row * self.now.step); z = pos 0 } }
     {
         Point {
-            x: self.coordinate(self.column),
-            y: self.coordinate(self.row),
+            x: (self.column * self.step).cast_signed(),
+            y: (self.row * self.step).cast_signed(),
             z: 0,
         }
     }
@@ -75,46 +64,27 @@ impl Position {
 }
 
 impl Cursor {
-    // A triangle with these corners.
-    fn triangle(&self, a: u32, b: u32, c: u32) -> Event
-        ensures { result ≡ Triangle self.now.place a b c }
-    {
-        Event::Triangle {
-            place: self.place,
-            a,
-            b,
-            c,
-        }
-    }
-
-    // The finalization of this vertex.
-    fn finalization(&self, vertex: u32) -> Event
-        ensures { result ≡ Finalization self.now.place vertex }
-    {
-        Event::Finalization {
-            place: self.place,
-            vertex,
-        }
-    }
-
     // The event itself.
-    pub fn event(&self) -> Event
+    pub(super) fn event(&self) -> Event
         ensures { result ≡ event_of self.now }
     {
+        let place = self.place;
+        let triangle = |a, b, c| Event::Triangle { place, a, b, c };
+        let finalization = |vertex| Event::Finalization { place, vertex };
         let at = &self.position;
         let n = at.number();
         match self.part {
             Part::NewVertex => Event::Vertex {
-                place: self.place,
+                place,
                 number: n,
                 at: at.point(),
             },
-            Part::FirstTriangle => self.triangle(at.above() - 1, at.above(), n),
-            Part::SecondTriangle => self.triangle(at.above() - 1, n, n - 1),
-            Part::FinalizationOfP => self.finalization(at.above() - 1),
-            Part::FinalizationOfQ => self.finalization(at.above()),
-            Part::FinalizationOfM => self.finalization(n - 1),
-            Part::FinalizationOfN => self.finalization(n),
+            Part::FirstTriangle => triangle(at.above() - 1, at.above(), n),
+            Part::SecondTriangle => triangle(at.above() - 1, n, n - 1),
+            Part::FinalizationOfP => finalization(at.above() - 1),
+            Part::FinalizationOfQ => finalization(at.above()),
+            Part::FinalizationOfM => finalization(n - 1),
+            Part::FinalizationOfN => finalization(n),
         }
     }
 
@@ -139,7 +109,7 @@ impl Cursor {
     }
 
     // The event behind it, if one is left.
-    pub fn after(self) -> Option<Cursor>
+    pub(super) fn after(self) -> Option<Cursor>
         ensures { events_from (Some self) ≡ event_of self ∷ events_from result }
     {
         let (position, part) = match self.part_after() {

@@ -1,6 +1,6 @@
 use Rattle.std.proofs.Common.{arith}
 use Rattle.mesh_bottoms.proofs.Bounds.{number_bound, turn_high}
-use Rattle.mesh_bottoms.proofs.grid.cursor.Cursor.after.Goals as goal
+use Rattle.mesh_bottoms.proofs.grid.Cursor.after.Goals as goal
 
 pub overflow_add-result : goal.overflow_add-result
 overflow_add-result c =

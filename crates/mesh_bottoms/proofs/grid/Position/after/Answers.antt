@@ -1,7 +1,7 @@
 use Rattle.std.proofs.Common.{◌+◌, ◌<◌, ◌≤◌, arith}
 use Rattle.std.proofs.lemmas.Bool.Decides.{nat_tests}
 use Rattle.mesh_bottoms.proofs.Positions.{next_row, row_on}
-use Rattle.mesh_bottoms.proofs.grid.position.Position.after.Goals as goal
+use Rattle.mesh_bottoms.proofs.grid.Position.after.Goals as goal
 
 pub returns-then-not-in_last_row : goal.returns-then-not-in_last_row
 returns-then-not-in_last_row c =
