@@ -1,5 +1,5 @@
 -- From position to position of the grid.
-use Rattle.std.proofs.Common.{◌≡◌, ℕ, zero, suc, ◌+◌, ◌-◌, ◌*◌, ◌<◌, ◌≤◌, List, [], ◌∷◌, ◌++◌, sym, ap, ◌∙◌, append_assoc, add-mul, one-mul, arith}
+use Rattle.std.proofs.Common.{◌≡◌, ℕ, suc, ◌+◌, ◌-◌, ◌*◌, ◌<◌, ◌≤◌, List, [], ◌∷◌, ◌++◌, sym, ap, ◌∙◌, append_assoc, add-one, add-mul, one-mul, arith}
 use Rattle.std.specs.List.{flat_map}
 use Rattle.mesh_stream.specs.declared.event.Event.{Event}
 use Rattle.mesh_stream.specs.declared.stage.Standing.TheVariants.{Ended}
@@ -10,24 +10,15 @@ use Rattle.mesh_bottoms.specs.Placing.{in_places}
 use Rattle.mesh_bottoms.specs.Gridding.{grid_at, grid_row, grid}
 use Rattle.mesh_bottoms.specs.Walking.{row_from, rows_from, behind, grid_left}
 
-counting_first : (k n : ℕ) → 0 < n → counting k n ≡ k ∷ counting (k + 1) (n - 1)
-counting_first k zero l = absurd (let z : ⊥ = omega arith in z)
-counting_first k (suc n) l =
-    let a : suc k ≡ k + 1 = omega arith in
-    let b : n ≡ suc n - 1 = omega arith in
-    ap (λ j. k ∷ counting j n) a ∙ ap (λ j. k ∷ counting (k + 1) j) b
+module _ (f : ℕ → List Event) where
+  first : (k n : ℕ) → k < n → flat_map f (counting k (n - k)) ≡ f k ++ flat_map f (counting (k + 1) (n - (k + 1)))
+  first k n l = let a : n - k ≡ suc (n - (k + 1)) = omega arith in rw (a, add-one)
 
-module _ (f : ℕ → List Event) (k n : ℕ) where
-  from_first : k < n → flat_map f (counting k (n - k)) ≡ f k ++ flat_map f (counting (k + 1) (n - (k + 1)))
-  from_first l =
-      let a : n - k - 1 ≡ n - (k + 1) = omega arith in
-      ap (flat_map f) (counting_first k (n - k) (omega arith)) ∙ ap (λ j. f k ++ flat_map f (counting (k + 1) j)) a
+  none : (k n : ℕ) → n ≤ k → flat_map f (counting k (n - k)) ≡ []
+  none k n l = let a : n - k ≡ 0 = omega arith in rw a
 
-  from_none : n ≤ k → flat_map f (counting k (n - k)) ≡ []
-  from_none l = let a : n - k ≡ 0 = omega arith in ap (λ j. flat_map f (counting k j)) a
-
-from_start : (f : ℕ → List Event) (n : ℕ) → flat_map f (counting 0 (n - 0)) ≡ flat_map f (counting 0 n)
-from_start f n = let a : n - 0 ≡ n = omega arith in ap (λ j. flat_map f (counting 0 j)) a
+  all : (n : ℕ) → flat_map f (counting 0 (n - 0)) ≡ flat_map f (counting 0 n)
+  all n = let a : n - 0 ≡ n = omega arith in rw a
 
 -- a row on, the numbers are a whole row higher
 pub row_on : (w r : ℕ) → (r + 1) * w ≡ r * w + w
@@ -36,23 +27,17 @@ row_on w r = omega (arith, add-mul r 1 w, one-mul w)
 module _ (w h s : ℕ) where
   -- the position and what comes behind it
   whole : (r c : ℕ) → c < w → grid_left w h s r c NewVertex ≡ row_from w h s r c ++ rows_from w h s (r + 1)
-  whole r c l =
-      sym (append_assoc (grid_at w h s r c) (row_from w h s r (c + 1)) (rows_from w h s (r + 1)))
-      ∙ ap (λ (z : List Event). z ++ rows_from w h s (r + 1)) (sym (from_first (grid_at w h s r) c w l))
+  whole r c l = rw (first (grid_at w h s r) c w l) (sym (append_assoc (grid_at w h s r c) _ _))
 
   row_start : (r : ℕ) → 1 ≤ w → r < h → grid_left w h s r 0 NewVertex ≡ rows_from w h s r
-  row_start r l k =
-      whole r 0 l
-      ∙ ap (λ (z : List Event). z ++ rows_from w h s (r + 1)) (from_start (grid_at w h s r) w)
-      ∙ sym (from_first (grid_row w h s) r h k)
+  row_start r l k = whole r 0 l ∙ rw (all (grid_at w h s r) w) (sym (first (grid_row w h s) r h k))
 
   pub next_column : (r c : ℕ) → c + 1 < w → grid_left w h s r (c + 1) NewVertex ≡ behind w h s r c
   next_column r c l = whole r (c + 1) l
 
   pub next_row : (r c : ℕ) → 1 ≤ w → w ≤ c + 1 → r + 1 < h → grid_left w h s (r + 1) 0 NewVertex ≡ behind w h s r c
-  next_row r c k l m =
-      row_start (r + 1) k m ∙ ap (λ (z : List Event). z ++ rows_from w h s (r + 1)) (sym (from_none (grid_at w h s r) (c + 1) w l))
+  next_row r c k l m = rw (none (grid_at w h s r) (c + 1) w l) (row_start (r + 1) k m)
 
   -- from the first position on it is the whole grid
   pub all_left : 1 ≤ w → 1 ≤ h → outcome (in_places 1 (grid_left w h s 0 0 NewVertex)) Ended ≡ grid w h s
-  all_left l k = ap (λ (z : List Event). outcome (in_places 1 z) Ended) (row_start 0 l k ∙ from_start (grid_row w h s) h)
+  all_left l k = ap (λ (z : List Event). outcome (in_places 1 z) Ended) (row_start 0 l k ∙ all (grid_row w h s) h)
