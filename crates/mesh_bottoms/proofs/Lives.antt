@@ -1,5 +1,5 @@
 -- Events that introduce the numbers 1, 2, .. in order and finalize them in order keep few vertices live.
-use Rattle.std.proofs.Common.{◌≡◌, ℕ, zero, suc, ◌+◌, ◌-◌, ◌<◌, ◌≤◌, Bool, true, false, cond, not, eqb, ◌⊎◌, List, [], ◌∷◌, ◌++◌, length, filter, sym, refl, ap, ◌∙◌, subst, inl, inr, append_assoc, append-nil, arith}
+use Rattle.std.proofs.Common.{◌≡◌, ℕ, zero, suc, ◌+◌, ◌-◌, ◌<◌, ◌≤◌, Bool, true, false, cond, not, ◌⊎◌, List, [], ◌∷◌, ◌++◌, length, filter, sym, refl, ap, ◌∙◌, inl, inr, append_assoc, append-nil, arith}
 use Rattle.std.proofs.lemmas.Bool.{or_right, cases_lt}
 use Rattle.mesh_stream.specs.declared.event.Point.{Point}
 use Rattle.mesh_stream.specs.declared.event.Event.{Event}
@@ -64,8 +64,8 @@ module _ (w : ℕ) where
   pub none : (high low : ℕ) → Leads w [] high low high low
   none high low = record { held = λ es place h. rw (append-nil es) h; narrow = λ es place h. omega arith }
 
-  pub chain : (xs ys : List Event) (a b c d e f : ℕ) → Leads w xs a b c d → Leads w ys c d e f → Leads w (xs ++ ys) a b e f
-  chain xs ys a b c d e f x y = record {
+  pub chain : {xs ys : List Event} {a b c d e f : ℕ} → Leads w xs a b c d → Leads w ys c d e f → Leads w (xs ++ ys) a b e f
+  chain {xs} {ys} x y = record {
     held = λ es place h.
         let t = places-++ xs ys place in
         rw (t.1, sym (append_assoc es (in_places place xs) (in_places t.0 ys))) (y.held (es ++ in_places place xs) t.0 (x.held es place h));

@@ -1,5 +1,5 @@
 -- From position to position of the grid.
-use Rattle.std.proofs.Common.{◌≡◌, ℕ, suc, ◌+◌, ◌-◌, ◌*◌, ◌<◌, ◌≤◌, List, [], ◌∷◌, ◌++◌, sym, ap, ◌∙◌, append_assoc, add-one, add-mul, one-mul, arith}
+use Rattle.std.proofs.Common.{◌≡◌, ℕ, suc, ◌+◌, ◌-◌, ◌<◌, ◌≤◌, List, [], ◌++◌, sym, ap, ◌∙◌, append_assoc, add-one, arith}
 use Rattle.std.specs.List.{flat_map}
 use Rattle.mesh_stream.specs.declared.event.Event.{Event}
 use Rattle.mesh_stream.specs.declared.stage.Standing.TheVariants.{Ended}
@@ -19,10 +19,6 @@ module _ (f : ℕ → List Event) where
 
   all : (n : ℕ) → flat_map f (counting 0 (n - 0)) ≡ flat_map f (counting 0 n)
   all n = let a : n - 0 ≡ n = omega arith in rw a
-
--- a row on, the numbers are a whole row higher
-pub row_on : (w r : ℕ) → (r + 1) * w ≡ r * w + w
-row_on w r = omega (arith, add-mul r 1 w, one-mul w)
 
 module _ (w h s : ℕ) where
   -- the position and what comes behind it

@@ -24,13 +24,13 @@ number_at w r c = r * w + c + 1
 
 -- The event of a part, at row r and column c. (The place is set afterwards.)
 abbrev pub part_event : ℕ → ℕ → ℕ → ℕ → Part → Event
-part_event w s r c NewVertex = Vertex 0 (r * w + c + 1) (record { x = pos (c * s); y = pos (r * s); z = pos 0 })
-part_event w s r c FirstTriangle = Triangle 0 (r * w + c + 1 - w - 1) (r * w + c + 1 - w) (r * w + c + 1)
-part_event w s r c SecondTriangle = Triangle 0 (r * w + c + 1 - w - 1) (r * w + c + 1) (r * w + c + 1 - 1)
-part_event w s r c FinalizationOfP = Finalization 0 (r * w + c + 1 - w - 1)
-part_event w s r c FinalizationOfQ = Finalization 0 (r * w + c + 1 - w)
-part_event w s r c FinalizationOfM = Finalization 0 (r * w + c + 1 - 1)
-part_event w s r c FinalizationOfN = Finalization 0 (r * w + c + 1)
+part_event w s r c NewVertex = Vertex 0 (number_at w r c) (record { x = pos (c * s); y = pos (r * s); z = pos 0 })
+part_event w s r c FirstTriangle = Triangle 0 (number_at w r c - w - 1) (number_at w r c - w) (number_at w r c)
+part_event w s r c SecondTriangle = Triangle 0 (number_at w r c - w - 1) (number_at w r c) (number_at w r c - 1)
+part_event w s r c FinalizationOfP = Finalization 0 (number_at w r c - w - 1)
+part_event w s r c FinalizationOfQ = Finalization 0 (number_at w r c - w)
+part_event w s r c FinalizationOfM = Finalization 0 (number_at w r c - 1)
+part_event w s r c FinalizationOfN = Finalization 0 (number_at w r c)
 
 module _ (w h s r c : ℕ) where
   abbrev own : Part → List Event
