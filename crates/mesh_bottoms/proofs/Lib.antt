@@ -1,6 +1,4 @@
-pub mod Records
 pub mod Bounds
-pub mod States
 pub mod Positions
 pub mod Lives
 pub mod Width

@@ -1,19 +1,19 @@
 -- Events that introduce the numbers 1, 2, .. in order and finalize them in order keep few vertices live.
-use Rattle.std.proofs.Common.{◌≡◌, ℕ, zero, suc, ◌+◌, ◌-◌, ◌<◌, ◌≤◌, Bool, true, false, cond, not, eqb, ◌⊎◌, List, [], ◌∷◌, ◌++◌, length, filter, sym, refl, ap, ◌∙◌, subst, inl, inr, append_assoc, append-nil, arith}
-use Rattle.std.proofs.lemmas.Bool.{eq-eqb, or_left, or_right, cases_lt}
+use Rattle.std.proofs.Common.{◌≡◌, ℕ, zero, suc, ◌+◌, ◌-◌, ◌<◌, ◌≤◌, Bool, true, false, cond, not, eqb, ◌⊎◌, List, [], ◌∷◌, ◌++◌, length, filter, sym, refl, ap, ◌∙◌, inl, inr, append_assoc, append-nil, arith}
+use Rattle.std.proofs.lemmas.Bool.{or_right, cases_lt}
+use Rattle.std.proofs.lemmas.List.Folds.{list_any-append}
 use Rattle.mesh_stream.specs.declared.event.Point.{Point}
 use Rattle.mesh_stream.specs.declared.event.Event.{Event}
 use Rattle.mesh_stream.specs.declared.event.Event.TheVariants.{Vertex, Triangle, Finalization}
 use Rattle.mesh_stream.specs.Lists.{has, counting}
 use Rattle.mesh_stream.specs.Events.{introduced, finalized, placed}
 use Rattle.mesh_stream.specs.Live.{live, width_after}
-use Rattle.mesh_stream.proofs.Having.{has_left}
-use Rattle.mesh_stream.proofs.Views.{introduced-++, finalized-++}
+use Rattle.mesh_stream.proofs.Having.{has_left, has_self}
+use Rattle.mesh_stream.proofs.Views.{finalized-++, introduced_v, introduced_t, introduced_f, finalized_f}
 use Rattle.mesh_bottoms.specs.Placing.{in_places}
 
 has_last : (n : ℕ) (xs : List ℕ) → has n (xs ++ (n ∷ [])) ≡ true
-has_last n [] = or_left (eqb n n) false (eq-eqb n n refl)
-has_last n (x ∷ xs) = or_right (eqb n x) (has n (xs ++ (n ∷ []))) (has_last n xs)
+has_last n xs = list_any-append (eqb n) xs (n ∷ []) ∙ or_right (has n xs) _ (has_self n [])
 
 counting_last : (n k : ℕ) → counting k (suc n) ≡ counting k n ++ ((k + n) ∷ [])
 counting_last zero k = let e : k ≡ k + 0 = omega arith in ap (λ j. j ∷ []) e
@@ -31,7 +31,11 @@ few_pass p (suc n) a zero h = at (p a) (few_pass p n (suc a) 0 (λ m i j. absurd
     at false ih = omega arith
 few_pass p (suc n) a (suc k) h =
     let ih = few_pass p n (suc a) k (λ m i j. h m (omega arith) (omega arith)) in
-    subst (λ b. length (cond b (a ∷ filter p (counting (suc a) n)) (filter p (counting (suc a) n))) ≤ suc n - suc k) (sym (h a (omega arith) (omega arith))) (omega arith)
+    rw (h a (omega arith) (omega arith)) (omega arith)
+
+-- what is finalized stays so
+still : (es : List Event) (e : Event) (m : ℕ) → has m (finalized es) ≡ true → has m (finalized (es ++ (e ∷ []))) ≡ true
+still es e m h = rw (finalized-++ es (e ∷ [])) (has_left m (finalized es) _ h)
 
 -- The vertices introduced so far are 1 to high, and those up to low are finalized.
 pub record Held (es : List Event) (high low : ℕ) : Type 0 where
@@ -40,13 +44,12 @@ pub record Held (es : List Event) (high low : ℕ) : Type 0 where
 
 few_live : (es : List Event) (high low : ℕ) → Held es high low → length (live es) ≤ high - low
 few_live es high low h =
-    subst (λ (z : List ℕ). length (filter (λ n. not (has n (finalized es))) z) ≤ high - low) (sym h.born)
-    (few_pass (λ n. not (has n (finalized es))) high 1 low (λ m a b. ap not (h.done m a (omega arith))))
+    rw h.born (few_pass (λ n. not (has n (finalized es))) high 1 low (λ m a b. ap not (h.done m a (omega arith))))
 
 width_both : (limit : ℕ) (xs es ys : List Event) → width_after es xs ≤ limit → width_after (es ++ xs) ys ≤ limit → width_after es (xs ++ ys) ≤ limit
-width_both limit [] es ys a b = subst (λ (z : List Event). width_after z ys ≤ limit) (append-nil es) b
+width_both limit [] es ys a b = rw (append-nil es) at b
 width_both limit (x ∷ xs) es ys a b =
-    let i = width_both limit xs (es ++ (x ∷ [])) ys (omega arith) (subst (λ (z : List Event). width_after z ys ≤ limit) (sym (append_assoc es (x ∷ []) xs)) b) in
+    let i = width_both limit xs (es ++ (x ∷ [])) ys (omega arith) (rw (append_assoc es (x ∷ []) xs) b) in
     omega arith
 
 places-++ : (xs ys : List Event) (place : ℕ) → (next : ℕ) × (in_places place (xs ++ ys) ≡ in_places place xs ++ in_places next ys)
@@ -60,18 +63,16 @@ pub record Leads (w : ℕ) (xs : List Event) (high low high' low' : ℕ) : Type 
 
 module _ (w : ℕ) where
   pub none : (high low : ℕ) → Leads w [] high low high low
-  none high low = record { held = λ es place h. subst (λ (z : List Event). Held z high low) (sym (append-nil es)) h; narrow = λ es place h. omega arith }
+  none high low = record { held = λ es place h. rw (append-nil es) h; narrow = λ es place h. omega arith }
 
-  pub chain : (xs ys : List Event) (a b c d e f : ℕ) → Leads w xs a b c d → Leads w ys c d e f → Leads w (xs ++ ys) a b e f
-  chain xs ys a b c d e f x y = record {
+  pub chain : {xs ys : List Event} {a b c d e f : ℕ} → Leads w xs a b c d → Leads w ys c d e f → Leads w (xs ++ ys) a b e f
+  chain {xs} {ys} x y = record {
     held = λ es place h.
         let t = places-++ xs ys place in
-        subst (λ (z : List Event). Held (es ++ z) e f) (sym t.1)
-        (subst (λ (z : List Event). Held z e f) (append_assoc es (in_places place xs) (in_places t.0 ys)) (y.held (es ++ in_places place xs) t.0 (x.held es place h)));
+        rw (t.1, sym (append_assoc es (in_places place xs) (in_places t.0 ys))) (y.held (es ++ in_places place xs) t.0 (x.held es place h));
     narrow = λ es place h.
         let t = places-++ xs ys place in
-        subst (λ (z : List Event). width_after es z ≤ w + 2) (sym t.1)
-        (width_both (w + 2) (in_places place xs) es (in_places t.0 ys) (x.narrow es place h) (y.narrow (es ++ in_places place xs) t.0 (x.held es place h)));
+        rw t.1 (width_both (w + 2) (in_places place xs) es (in_places t.0 ys) (x.narrow es place h) (y.narrow (es ++ in_places place xs) t.0 (x.held es place h)));
   }
 
   one : (e : Event) (high low high' low' : ℕ) → high' ≤ low' + w + 2 → ((es : List Event) (place : ℕ) → Held es high low → Held (es ++ (placed place e ∷ [])) high' low')
@@ -82,33 +83,30 @@ module _ (w : ℕ) where
   }
 
   pub vertex : (high low place n : ℕ) (at : Point) → n ≡ suc high → suc high ≤ low + w + 2 → Leads w (Vertex place n at ∷ []) high low (suc high) low
-  vertex high low place n at e s = one (Vertex place n at) high low (suc high) low s held
-    where
-      held : (es : List Event) (p : ℕ) → Held es high low → Held (es ++ (Vertex p n at ∷ [])) (suc high) low
-      held es p h = record {
-        born = introduced-++ es (Vertex p n at ∷ []) ∙ ap (λ (z : List ℕ). z ++ (n ∷ [])) h.born ∙ sym (counting_last high 1 ∙ ap (λ j. counting 1 high ++ (j ∷ [])) (let f : 1 + high ≡ n = omega arith in f));
-        done = λ m a b. ap (has m) (finalized-++ es (Vertex p n at ∷ []) ∙ append-nil (finalized es)) ∙ h.done m a b;
-      }
+  vertex high low place n at e s = one (Vertex place n at) high low (suc high) low s (λ es p h. record {
+    born = let f : n ≡ 1 + high = omega arith in rw (introduced_v es p n at, h.born, f) (sym (counting_last high 1));
+    done = λ m a b. still es (Vertex p n at) m (h.done m a b);
+  })
 
   pub triangle : (high low place a b c : ℕ) → high ≤ low + w + 2 → Leads w (Triangle place a b c ∷ []) high low high low
   triangle high low place a b c s = one (Triangle place a b c) high low high low s (λ es p h. record {
-    born = introduced-++ es (Triangle p a b c ∷ []) ∙ append-nil (introduced es) ∙ h.born;
-    done = λ m i j. ap (has m) (finalized-++ es (Triangle p a b c ∷ []) ∙ append-nil (finalized es)) ∙ h.done m i j;
+    born = introduced_t es p a b c ∙ h.born;
+    done = λ m i j. still es (Triangle p a b c) m (h.done m i j);
   })
 
   -- the finalization of any vertex, and that of the lowest one that is not finalized yet
   pub final : (high low place i : ℕ) → high ≤ low + w + 2 → Leads w (Finalization place i ∷ []) high low high low
   final high low place i s = one (Finalization place i) high low high low s (λ es p h. record {
-    born = introduced-++ es (Finalization p i ∷ []) ∙ append-nil (introduced es) ∙ h.born;
-    done = λ m a b. ap (has m) (finalized-++ es (Finalization p i ∷ [])) ∙ has_left m (finalized es) (i ∷ []) (h.done m a b);
+    born = introduced_f es p i ∙ h.born;
+    done = λ m a b. still es (Finalization p i) m (h.done m a b);
   })
 
   pub next_final : (high low place i : ℕ) → i ≡ suc low → high ≤ suc low + w + 2 → Leads w (Finalization place i ∷ []) high low high (suc low)
   next_final high low place i e s = one (Finalization place i) high low high (suc low) s (λ es p h. record {
-    born = introduced-++ es (Finalization p i ∷ []) ∙ append-nil (introduced es) ∙ h.born;
-    done = λ m a b. ap (has m) (finalized-++ es (Finalization p i ∷ [])) ∙ at es m a b h (cases_lt low m);
+    born = introduced_f es p i ∙ h.born;
+    done = λ m a b. at es p m a b h (cases_lt low m);
   })
     where
-      at : (es : List Event) (m : ℕ) → 1 ≤ m → m ≤ suc low → Held es high low → (low < m) ⊎ (m ≤ low) → has m (finalized es ++ (i ∷ [])) ≡ true
-      at es m a b h (inl l) = subst (λ j. has m (finalized es ++ (j ∷ [])) ≡ true) (let f : m ≡ i = omega arith in f) (has_last m (finalized es))
-      at es m a b h (inr l) = has_left m (finalized es) (i ∷ []) (h.done m a l)
+      at : (es : List Event) (p m : ℕ) → 1 ≤ m → m ≤ suc low → Held es high low → (low < m) ⊎ (m ≤ low) → has m (finalized (es ++ (Finalization p i ∷ []))) ≡ true
+      at es p m a b h (inl l) = let k : i ≡ m = omega arith in rw (finalized_f es p i, k) (has_last m (finalized es))
+      at es p m a b h (inr l) = still es (Finalization p i) m (h.done m a l)

@@ -1,43 +1,42 @@
 -- What the steps of the grid do.
-use Rattle.std.specs.Prelude.{◌≡◌, ◌+◌, List, ◌++◌, Option}
+use Rattle.std.specs.Prelude.{◌≡◌, ℕ, ◌+◌, List, [], Some, None, Option}
 use Rattle.mesh_stream.specs.declared.event.Event.{Event}
-use Rattle.mesh_stream.specs.declared.stage.Standing.TheVariants.{Ended}
 use Rattle.mesh_stream.specs.Events.{placed}
-use Rattle.mesh_stream.specs.Meaning.{Outcome, outcome}
-use Rattle.mesh_bottoms.specs.declared.grid.Grid.{Grid}
+use Rattle.mesh_bottoms.specs.declared.grid.Cursor.{Cursor}
 use Rattle.mesh_bottoms.specs.declared.grid.part.Part.{Part}
+use Rattle.mesh_bottoms.specs.declared.grid.part.Part.TheVariants.{NewVertex}
+use Rattle.mesh_bottoms.specs.declared.grid.Position.{Position}
 use Rattle.mesh_bottoms.specs.Placing.{in_places}
-use Rattle.mesh_bottoms.specs.Walking.{part_event, after_part, Follows, behind, grid_left}
+use Rattle.mesh_bottoms.specs.Walking.{number_at, part_event, Follows, behind, grid_left}
 
--- the event at hand
-abbrev pub event_of : Grid → Event
-event_of g = placed g.place (part_event g.columns g.step g.row g.column g.part)
+-- the number of the vertex of a position
+abbrev pub number_of : Position → ℕ
+number_of p = number_at p.columns p.row p.column
 
--- what the grid still has to hand over; the places are set afterwards
-abbrev pub left_of : Grid → List Event
-left_of g = grid_left g.columns g.rows g.step g.row g.column g.part
+-- what the grid has from a part of a position on, and what it has behind the position; the places are set afterwards
+abbrev pub left_from : Position → Part → List Event
+left_from p part = grid_left p.columns p.rows p.step p.row p.column part
 
--- what it means, whatever the text and the mark
-abbrev pub outcome_of : Grid → Outcome Event
-outcome_of g = outcome (in_places g.place (left_of g)) Ended
+abbrev pub behind_of : Position → List Event
+behind_of p = behind p.columns p.rows p.step p.row p.column
 
--- what it has behind this position
-abbrev pub behind_of : Grid → List Event
-behind_of g = behind g.columns g.rows g.step g.row g.column
+-- the event that comes next
+abbrev pub event_of : Cursor → Event
+event_of c = placed c.place (part_event c.position.columns c.position.step c.position.row c.position.column c.part)
 
--- what it has behind the event at hand
-abbrev pub rest_of : Grid → List Event
-rest_of g = after_part g.columns g.rows g.step g.row g.column g.part ++ behind_of g
+-- it and all that come behind it
+abbrev pub events_from : Option Cursor → List Event
+events_from (Some c) = in_places c.place (left_from c.position c.part)
+events_from None = []
 
-abbrev pub Followed : Grid → Option Part → Type 0
-Followed g next = Follows g.columns g.rows g.step g.row g.column g.part next
+abbrev pub PartFollows : Cursor → Option Part → Type 0
+PartFollows c next = Follows c.position.columns c.position.rows c.position.step c.position.row c.position.column c.part next
 
--- it goes to the next position
-pub record Moved (g after : Grid) : Type 0 where
-  pub left : left_of after ≡ behind_of g
-  pub place : after.place ≡ g.place + 1
+-- A position that comes next after another, if one does.
+pub record Neighbours (p next : Position) : Type 0 where
+  pub left : left_from next NewVertex ≡ behind_of p
+  pub number : number_of next ≡ number_of p + 1
 
--- it goes to the next event
-pub record Advanced (g after : Grid) : Type 0 where
-  pub left : left_of after ≡ rest_of g
-  pub place : after.place ≡ g.place + 1
+abbrev pub PositionFollows : Position → Option Position → Type 0
+PositionFollows p (Some next) = Neighbours p next
+PositionFollows p None = behind_of p ≡ []

@@ -1,5 +1,5 @@
 -- The grid event by event: what is left of it from a part of a position on.
-use Rattle.std.specs.Prelude.{◌≡◌, ℕ, ◌+◌, ◌-◌, ◌*◌, ◌<◌, ◌≤◌, Bool, ◌&&◌, List, [], ◌∷◌, ◌++◌, pos, Some, None, Option, ◌==◌, nat_le, nat_lt}
+use Rattle.std.specs.Prelude.{◌≡◌, ℕ, ◌+◌, ◌-◌, ◌*◌, ◌<◌, ◌≤◌, Bool, ◌&&◌, List, [], ◌∷◌, ◌++◌, pos, Some, None, Option, ◌==◌, nat_le}
 use Rattle.std.specs.List.{flat_map}
 use Rattle.mesh_stream.specs.declared.event.Event.{Event}
 use Rattle.mesh_stream.specs.declared.event.Event.TheVariants.{Vertex, Triangle, Finalization}
@@ -18,15 +18,19 @@ turn FinalizationOfQ = 4
 turn FinalizationOfM = 5
 turn FinalizationOfN = 6
 
+-- the number of the vertex at row r and column c, of w columns
+abbrev pub number_at : ℕ → ℕ → ℕ → ℕ
+number_at w r c = r * w + c + 1
+
 -- The event of a part, at row r and column c. (The place is set afterwards.)
 abbrev pub part_event : ℕ → ℕ → ℕ → ℕ → Part → Event
-part_event w s r c NewVertex = Vertex 0 (r * w + c + 1) (record { x = pos (c * s); y = pos (r * s); z = pos 0 })
-part_event w s r c FirstTriangle = Triangle 0 (r * w + c + 1 - w - 1) (r * w + c + 1 - w) (r * w + c + 1)
-part_event w s r c SecondTriangle = Triangle 0 (r * w + c + 1 - w - 1) (r * w + c + 1) (r * w + c + 1 - 1)
-part_event w s r c FinalizationOfP = Finalization 0 (r * w + c + 1 - w - 1)
-part_event w s r c FinalizationOfQ = Finalization 0 (r * w + c + 1 - w)
-part_event w s r c FinalizationOfM = Finalization 0 (r * w + c + 1 - 1)
-part_event w s r c FinalizationOfN = Finalization 0 (r * w + c + 1)
+part_event w s r c NewVertex = Vertex 0 (number_at w r c) (record { x = pos (c * s); y = pos (r * s); z = pos 0 })
+part_event w s r c FirstTriangle = Triangle 0 (number_at w r c - w - 1) (number_at w r c - w) (number_at w r c)
+part_event w s r c SecondTriangle = Triangle 0 (number_at w r c - w - 1) (number_at w r c) (number_at w r c - 1)
+part_event w s r c FinalizationOfP = Finalization 0 (number_at w r c - w - 1)
+part_event w s r c FinalizationOfQ = Finalization 0 (number_at w r c - w)
+part_event w s r c FinalizationOfM = Finalization 0 (number_at w r c - 1)
+part_event w s r c FinalizationOfN = Finalization 0 (number_at w r c)
 
 module _ (w h s r c : ℕ) where
   abbrev own : Part → List Event
@@ -84,6 +88,6 @@ module _ (w h s : ℕ) where
   abbrev pub behind : ℕ → ℕ → List Event
   behind r c = row_from r (c + 1) ++ rows_from (r + 1)
 
-  -- what is left from a part on, and nothing behind the last row
+  -- what is left from a part on
   abbrev pub grid_left : ℕ → ℕ → Part → List Event
-  grid_left r c part = when (nat_lt r h) (from_part w h s r c part ++ behind r c)
+  grid_left r c part = from_part w h s r c part ++ behind r c

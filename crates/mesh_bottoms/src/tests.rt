@@ -14,6 +14,14 @@ fn vertex(place: u32, number: u32, x: i32, y: i32) -> Event {
     }
 }
 
+fn triangle(place: u32, a: u32, b: u32, c: u32) -> Event {
+    Event::Triangle { place, a, b, c }
+}
+
+fn finalization(place: u32, vertex: u32) -> Event {
+    Event::Finalization { place, vertex }
+}
+
 // Takes the events in turn, and then finds the stage at its end, twice.
 fn check_all<S: Stage<Item = Event>>(rt: &impl Abort, stage: &mut S, events: &[Event]) {
     for event in events {
@@ -31,44 +39,22 @@ fn the_smallest_grid(rt: HostRuntime) -> Result<(), Fail> {
         vertex(2, 2, 10, 0),
         vertex(3, 3, 0, 10),
         vertex(4, 4, 10, 10),
-        Event::Triangle {
-            place: 5,
-            a: 1,
-            b: 2,
-            c: 4,
-        },
-        Event::Triangle {
-            place: 6,
-            a: 1,
-            b: 4,
-            c: 3,
-        },
-        Event::Finalization {
-            place: 7,
-            vertex: 1,
-        },
-        Event::Finalization {
-            place: 8,
-            vertex: 2,
-        },
-        Event::Finalization {
-            place: 9,
-            vertex: 3,
-        },
-        Event::Finalization {
-            place: 10,
-            vertex: 4,
-        },
+        triangle(5, 1, 2, 4),
+        triangle(6, 1, 4, 3),
+        finalization(7, 1),
+        finalization(8, 2),
+        finalization(9, 3),
+        finalization(10, 4),
     ];
     check_all(&rt, &mut grid, &events);
     Ok(())
 }
 
 fn refuses(columns: u32, rows: u32, step: u32) -> bool {
-    match Grid::new(columns, rows, step) {
-        Ok(_) => false,
-        Err(e) => e == Refusal::SettingNotAllowed,
-    }
+    matches!(
+        Grid::new(columns, rows, step),
+        Err(Refusal::SettingNotAllowed)
+    )
 }
 
 #[test]
@@ -84,23 +70,7 @@ fn settings(rt: HostRuntime) {
 
 #[test]
 fn records_in_new_places(rt: HostRuntime) {
-    let records = [
-        vertex(7, 1, 0, 0),
-        Event::Finalization {
-            place: 7,
-            vertex: 1,
-        },
-    ];
+    let records = [vertex(7, 1, 0, 0), finalization(7, 1)];
     let mut list = ListStage::new(&records);
-    check_all(
-        &rt,
-        &mut list,
-        &[
-            vertex(1, 1, 0, 0),
-            Event::Finalization {
-                place: 2,
-                vertex: 1,
-            },
-        ],
-    );
+    check_all(&rt, &mut list, &[vertex(1, 1, 0, 0), finalization(2, 1)]);
 }

@@ -3,8 +3,8 @@ ghost use Rattle.mesh_bottoms.specs.Gridding.{grid_allowed};
 ghost use Rattle.mesh_bottoms.specs.Starting.{Made};
 ghost use Rattle.mesh_bottoms.specs.contracts.grid.stage.GridStage.TheImpl.{ghosts as gridding};
 
-use crate::grid::Grid;
 use crate::grid::part::Part;
+use crate::grid::{Cursor, Grid, Position};
 use mesh_stream::fault::Refusal;
 
 // Whether the settings are allowed. The products are of 64 bits, which hold them at every setting.
@@ -12,10 +12,8 @@ fn allows(columns: u32, rows: u32, step: u32) -> bool
     ensures { result ≡ grid_allowed columns rows step }
 {
     let step = u64::from(step);
-    columns >= 2
-        && columns <= 1000
-        && rows >= 2
-        && rows <= 50_000
+    (2..=1000).contains(&columns)
+        && (2..=50_000).contains(&rows)
         && step >= 1
         && u64::from(columns - 1) * step <= 100_000
         && u64::from(rows - 1) * step <= 100_000
@@ -29,15 +27,18 @@ impl Grid {
         if !allows(columns, rows, step) {
             return Err(Refusal::SettingNotAllowed);
         }
-        Ok(Grid {
+        let position = Position {
             columns,
             rows,
             step,
             row: 0,
             column: 0,
-            number: 1,
+        };
+        let first = Cursor {
+            position,
             part: Part::NewVertex,
             place: 1,
-        })
+        };
+        Ok(Grid { next: Some(first) })
     }
 }

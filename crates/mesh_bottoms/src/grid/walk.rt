@@ -1,94 +1,102 @@
-ghost use Rattle.std.specs.Prelude.{◌≡◌, ◌-◌, ◌*◌, ◌<◌, ◌≤◌, pos};
-ghost use Rattle.mesh_stream.specs.declared.event.Event.TheVariants.{Triangle, Finalization};
-ghost use Rattle.mesh_bottoms.specs.Walking.{turn};
-ghost use Rattle.mesh_bottoms.specs.Steps.{event_of, Followed, Moved, Advanced};
+ghost use Rattle.std.specs.Prelude.{◌≡◌, ◌+◌, ◌-◌, ◌*◌, ◌≤◌, ◌∷◌, ◌==◌, pos};
+ghost use Rattle.mesh_bottoms.specs.Steps.{number_of, event_of, events_from, PartFollows, PositionFollows};
 
-use crate::grid::Grid;
 use crate::grid::part::Part;
+use crate::grid::{Cursor, Position};
 use mesh_stream::event::{Event, Point};
 
-impl Grid {
-    // How far so many steps lead.
-    fn coordinate(&self, steps: u32) -> i32
-        requires { steps * self.now.step ≤ 100000 }
-        ensures { result ≡ pos (steps * self.now.step) }
-    {
-        (steps * self.step) as i32
-    }
-
-    // Where the vertex of this position stands.
+impl Position {
+    // Where its vertex stands.
     fn point(&self) -> Point
-        requires { self.now.row < self.now.rows }
         ensures { result ≡ record { x = pos (self.now.column * self.now.step); y = pos (self.now.row * self.now.step); z = pos 0 } }
     {
         Point {
-            x: self.coordinate(self.column),
-            y: self.coordinate(self.row),
+            x: (self.column * self.step).cast_signed(),
+            y: (self.row * self.step).cast_signed(),
             z: 0,
         }
     }
 
+    // The number of its vertex.
+    fn number(&self) -> u32
+        ensures { result ≡ number_of self.now }
+    {
+        self.row * self.columns + self.column + 1
+    }
+
     // The number of the vertex in the same column of the row before.
     fn above(&self) -> u32
-        requires { 1 ≤ turn self.now.part }
-        ensures number { result ≡ self.now.number - self.now.columns }
-        ensures low { 2 ≤ result }
+        requires { 1 ≤ self.now.row }
+        ensures number { result ≡ number_of self.now - self.now.columns }
+        ensures low { 1 + self.now.column ≤ result }
     {
-        self.number - self.columns
+        self.number() - self.columns
     }
 
-    // A triangle with these corners.
-    fn triangle(&self, a: u32, b: u32, c: u32) -> Event
-        ensures { result ≡ Triangle self.now.place a b c }
+    fn in_last_column(&self) -> bool
+        ensures { result ≡ self.now.column == self.now.columns - 1 }
     {
-        Event::Triangle {
-            place: self.place,
-            a,
-            b,
-            c,
+        self.column == self.columns - 1
+    }
+
+    fn in_last_row(&self) -> bool
+        ensures { result ≡ self.now.row == self.now.rows - 1 }
+    {
+        self.row == self.rows - 1
+    }
+
+    // The position that comes next, if one does.
+    #[tactic(auto, using(crate::proofs::Positions::next_column))]
+    fn after(mut self) -> Option<Position>
+        ensures { PositionFollows self result }
+    {
+        if !self.in_last_column() {
+            self.column += 1;
+            Some(self)
+        } else if !self.in_last_row() {
+            self.row += 1;
+            self.column = 0;
+            Some(self)
+        } else {
+            None
         }
     }
+}
 
-    // The finalization of this vertex.
-    fn finalization(&self, vertex: u32) -> Event
-        ensures { result ≡ Finalization self.now.place vertex }
-    {
-        Event::Finalization {
-            place: self.place,
-            vertex,
-        }
-    }
-
-    // The event at hand.
+impl Cursor {
+    // The event itself.
     pub(super) fn event(&self) -> Event
-        requires { self.now.row < self.now.rows }
         ensures { result ≡ event_of self.now }
     {
-        let n = self.number;
+        let place = self.place;
+        let triangle = |a, b, c| Event::Triangle { place, a, b, c };
+        let finalization = |vertex| Event::Finalization { place, vertex };
+        let at = &self.position;
+        let n = at.number();
         match self.part {
             Part::NewVertex => Event::Vertex {
-                place: self.place,
+                place,
                 number: n,
-                at: self.point(),
+                at: at.point(),
             },
-            Part::FirstTriangle => self.triangle(self.above() - 1, self.above(), n),
-            Part::SecondTriangle => self.triangle(self.above() - 1, n, n - 1),
-            Part::FinalizationOfP => self.finalization(self.above() - 1),
-            Part::FinalizationOfQ => self.finalization(self.above()),
-            Part::FinalizationOfM => self.finalization(n - 1),
-            Part::FinalizationOfN => self.finalization(n),
+            Part::FirstTriangle => triangle(at.above() - 1, at.above(), n),
+            Part::SecondTriangle => triangle(at.above() - 1, n, n - 1),
+            Part::FinalizationOfP => finalization(at.above() - 1),
+            Part::FinalizationOfQ => finalization(at.above()),
+            Part::FinalizationOfM => finalization(n - 1),
+            Part::FinalizationOfN => finalization(n),
         }
     }
 
     // The part that comes next at this position, if one does.
     fn part_after(&self) -> Option<Part>
-        requires { self.now.row < self.now.rows }
-        ensures { Followed self.now result }
+        ensures { PartFollows self.now result }
     {
-        let last_column = self.column == self.columns - 1;
-        let last_row = self.row == self.rows - 1;
+        let at = &self.position;
+        let last_column = at.in_last_column();
+        let last_row = at.in_last_row();
         match self.part {
-            Part::NewVertex if self.row >= 1 && self.column >= 1 => Some(Part::FirstTriangle),
+            Part::NewVertex if at.row >= 1 && at.column >= 1 => Some(Part::FirstTriangle),
             Part::FirstTriangle => Some(Part::SecondTriangle),
             Part::SecondTriangle => Some(Part::FinalizationOfP),
             Part::FinalizationOfP if last_column => Some(Part::FinalizationOfQ),
@@ -100,33 +108,18 @@ impl Grid {
         }
     }
 
-    // Goes to the first part of the next position.
-    fn next_position(&mut self)
-        requires { self.old.row < self.old.rows }
-        ensures { Moved self.old self.new }
+    // The event behind it, if one is left.
+    pub(super) fn after(self) -> Option<Cursor>
+        ensures { events_from (Some self) ≡ event_of self ∷ events_from result }
     {
-        if self.column + 1 < self.columns {
-            self.column += 1;
-        } else {
-            self.column = 0;
-            self.row += 1;
-        }
-        self.number += 1;
-        self.part = Part::NewVertex;
-        self.place += 1;
-    }
-
-    // Goes to the next event.
-    pub(super) fn advance(&mut self)
-        requires { self.old.row < self.old.rows }
-        ensures { Advanced self.old self.new }
-    {
-        match self.part_after() {
-            Some(part) => {
-                self.part = part;
-                self.place += 1;
-            }
-            None => self.next_position(),
-        }
+        let (position, part) = match self.part_after() {
+            Some(part) => (self.position, part),
+            None => (self.position.after()?, Part::NewVertex),
+        };
+        Some(Cursor {
+            position,
+            part,
+            place: self.place + 1,
+        })
     }
 }
