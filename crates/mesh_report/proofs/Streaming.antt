@@ -187,11 +187,3 @@ module _ (r s : Report) (p : Port) (G : Meaning Event) (q : Port) (H : Meaning E
           ∙ out.whole will.so_far will.taken)
       at Ended e put = put_finishes put (λ w. subst IsWaiting e w) o will
       at (Faulty f) e put = put_finishes put (λ w. subst IsWaiting e w) o will
-
-pub no_bytes : (xs : List ℕ) → length xs ≡ 0 → xs ≡ []
-no_bytes [] e = refl
-no_bytes (x ∷ xs) e = absurd (let z : ⊥ = omega arith in z)
-
-pub some_bytes : (xs : List ℕ) (b : Bool) → b ≡ eqb (length xs) 0 → b ≡ false → 0 < length xs
-some_bytes [] b e f = absurd (both_ways b f e)
-some_bytes (x ∷ xs) b e f = omega arith

@@ -1,4 +1,4 @@
-ghost use Rattle.std.specs.Prelude.{◌≡◌, ℕ, ◌≤◌, List, [], ◌++◌, length, drop};
+ghost use Rattle.std.specs.Prelude.{ℕ, List, [], ◌++◌};
 ghost use Rattle.mesh_stream.specs.declared.event.Event.{Event as MeshEvent};
 ghost use Rattle.mesh_stream.specs.Meaning.{closed, Outcome};
 ghost use Rattle.mesh_report.specs.Reporting.{reported};
@@ -8,14 +8,6 @@ use crate::report::Report;
 use crate::stream_report::StreamReport;
 use mesh_stream::event::Event;
 use mesh_stream::stage::{Inlet, Standing};
-
-// What lies behind the first bytes.
-fn behind(bytes: &[u8], count: usize) -> &[u8]
-    requires { count ≤ length bytes.now }
-    ensures { result.now ≡ drop count bytes.now }
-{
-    &bytes[count..]
-}
 
 impl<S: Inlet<Item = Event> + Drop> StreamReport<S> {
     // A report on whatever the stage will give.
@@ -45,7 +37,7 @@ impl<S: Inlet<Item = Event> + Drop> StreamReport<S> {
             let Ok(taken) = self.stage.feed(rest) else {
                 return;
             };
-            rest = behind(rest, taken);
+            rest = &rest[taken..];
         }
     }
 
