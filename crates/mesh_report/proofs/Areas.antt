@@ -1,5 +1,5 @@
 -- Areas in 64 bits: differences of coordinates, their products, and the difference of two products.
-use Rattle.std.proofs.Common.{◌≡◌, ℕ, zero, suc, ◌+◌, ◌-◌, ◌*◌, ◌^◌, ◌<◌, ◌≤◌, Bool, true, false, cond, ◌&&◌, ltb, leb, ℤ, pos, negsuc, ◌+ℤ◌, ◌-ℤ◌, ◌*ℤ◌, neg_ℤ, nat_abs, sym, refl, ◌∙◌, subst, mul-le-mul, arith, w64, SFits, to_z, of_z}
+use Rattle.std.proofs.Common.{◌≡◌, ℕ, zero, suc, ◌+◌, ◌-◌, ◌*◌, ◌^◌, ◌<◌, ◌≤◌, Bool, true, false, cond, ◌&&◌, ltb, leb, ℤ, pos, negsuc, ◌+ℤ◌, ◌-ℤ◌, ◌*ℤ◌, neg_ℤ, nat_abs, sym, refl, ap, ◌∙◌, subst, mul-le-mul, arith, w32, w64, SFits, to_z, of_z}
 use lib.IntN.{sub_ℕ}
 use lib.Signed.{mag}
 use Rattle.std.proofs.lemmas.Int.{to_z-of_z}
@@ -56,6 +56,15 @@ within_coordinate (pos n) h = record { abs = leb-true n 100000 h }
 within_coordinate (negsuc n) h = record { abs = let l = leb-true n 99999 (and_parts (leb n 99999) true h).0 in omega arith }
 
 -- Passed on as bits and back.
+
+coordinate_fits : (z : ℤ) → coordinate z ≡ true → SFits w32 z
+coordinate_fits z h = record { sfits = let k = mag_abs z in let a = (within_coordinate z h).abs in omega arith }
+
+pub coordinate_bits : (z : ℤ) → coordinate z ≡ true → to_z w32 (of_z w32 z) ≡ z
+coordinate_bits z h = to_z-of_z w32 z (coordinate_fits z h)
+
+pub coordinate_kept : (z : ℤ) → coordinate z ≡ true → coordinate (to_z w32 (of_z w32 z)) ≡ true
+coordinate_kept z h = ap coordinate (coordinate_bits z h) ∙ h
 
 module _ (p q : ℤ) (fp : SFits w64 p) (fq : SFits w64 q) where
   pub bits_product : Within 200000 p → Within 200000 q → (to_z w64 (of_z w64 p) *ℤ to_z w64 (of_z w64 q) ≡ p *ℤ q) × Within 40000000000 (p *ℤ q)

@@ -132,22 +132,6 @@ module _ (r : Report) (q : Port) (H : Meaning Event) (q' : Port) (K : Meaning Ev
         ∙ ap (resumed will.so_far r.standing) (law.shut_fixed no_feed.was_shut (rest ++ t) closed ∙ sym (law.shut_fixed no_feed.was_shut t closed) ∙ sym (no_feed.same t closed));
   }
 
-  -- where the report takes no more, no byte matters
-  pub will_settled : (r.standing ≡ Waiting → ⊥) → (t : List ℕ) (o : Outcome Event) → WillReport H r (rest ++ t) o → WillReport H r t o
-  will_settled n t o will = record {
-    so_far = will.so_far;
-    taken = will.taken;
-    then_on = will.then_on ∙ settled (H (rest ++ t) closed) ∙ sym (settled (H t closed));
-  }
-    where
-      settled : (z : Outcome Event) → resumed will.so_far r.standing z ≡ outcome will.so_far r.standing
-      settled z = resumed_settled will.so_far r.standing z (λ w. at r.standing refl w)
-        where
-          at : (st : Standing) → r.standing ≡ st → IsWaiting st → ⊥
-          at Waiting e w = n e
-          at Ended e w = w
-          at (Faulty f) e w = w
-
   pub roomy_takes : (k : ℕ) → Takes q H rest k q' K → Roomy q → 0 < length rest → 1 ≤ k
   roomy_takes k fed ro l = at q fed.was_open fed.count ro
     where
@@ -155,6 +139,22 @@ module _ (r : Report) (q : Port) (H : Meaning Event) (q' : Port) (K : Meaning Ev
       at textless o e x = absurd o
       at (open_for n) o e x = omega arith
       at shut o e x = absurd o
+
+-- Where the report takes no more, no byte matters.
+pub will_settled : (r : Report) (H : Meaning Event) (rest : List ℕ) → (r.standing ≡ Waiting → ⊥) → (t : List ℕ) (o : Outcome Event) → WillReport H r (rest ++ t) o → WillReport H r t o
+will_settled r H rest n t o will = record {
+  so_far = will.so_far;
+  taken = will.taken;
+  then_on = will.then_on ∙ settled (H (rest ++ t) closed) ∙ sym (settled (H t closed));
+}
+  where
+    settled : (z : Outcome Event) → resumed will.so_far r.standing z ≡ outcome will.so_far r.standing
+    settled z = resumed_settled will.so_far r.standing z (λ w. at r.standing refl w)
+      where
+        at : (st : Standing) → r.standing ≡ st → IsWaiting st → ⊥
+        at Waiting e w = n e
+        at Ended e w = w
+        at (Faulty f) e w = w
 
 -- Closing, and then running out of events: what is reported is what was to come.
 module _ (r s : Report) (p : Port) (G : Meaning Event) (q : Port) (H : Meaning Event) (v : Port) (K : Meaning Event) (law : Lawful p G) where
@@ -187,11 +187,3 @@ module _ (r s : Report) (p : Port) (G : Meaning Event) (q : Port) (H : Meaning E
           ∙ out.whole will.so_far will.taken)
       at Ended e put = put_finishes put (λ w. subst IsWaiting e w) o will
       at (Faulty f) e put = put_finishes put (λ w. subst IsWaiting e w) o will
-
-pub no_bytes : (xs : List ℕ) → length xs ≡ 0 → xs ≡ []
-no_bytes [] e = refl
-no_bytes (x ∷ xs) e = absurd (let z : ⊥ = omega arith in z)
-
-pub some_bytes : (xs : List ℕ) (b : Bool) → b ≡ eqb (length xs) 0 → b ≡ false → 0 < length xs
-some_bytes [] b e f = absurd (both_ways b f e)
-some_bytes (x ∷ xs) b e f = omega arith

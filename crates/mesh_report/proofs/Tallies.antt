@@ -1,5 +1,6 @@
 -- What is counted of one event, by the whole list.
 use Rattle.std.proofs.Common.{◌≡◌, ℕ, max, true, List, [], ◌∷◌, ◌++◌, length, Some, None, Ok, sym, ap, ◌∙◌, subst, append-nil, length-append}
+use Rattle.std.proofs.lemmas.Option.{same_Some}
 use Rattle.mesh_stream.specs.declared.event.Point.{Point}
 use Rattle.mesh_stream.specs.declared.event.Event.{Event}
 use Rattle.mesh_stream.specs.declared.event.Event.TheVariants.{Vertex, Triangle, Finalization}
@@ -99,9 +100,6 @@ module _ (r s : Report) where
   takes_final m p i (x, acc, t, st) noted = takes_one m (Finalization p i) _ (acc.0 p) st noted
       (λ es h l. ap (at_least_wide (window_of m.judge).live_count) (t ∙ ap one_finalized h.totals) ∙ counts_final (live_limit r.judge) es (accepted_in es h) _ p i l)
 
-  some_same : {A : Type 0} (x y : A) → Some x ≡ Some y → x ≡ y
-  some_same x y e = cc
-
   pub takes_triangle : (m : Report) (p a b c : ℕ) → TriangleCounted r a b c (Ok tt) m → WidthNoted m s → TakesOne r s (Triangle p a b c)
   takes_triangle m p a b c (k, acc, t, st) noted = takes_one m (Triangle p a b c) _ (acc.0 p) st noted
       (λ es h l.
@@ -115,4 +113,4 @@ module _ (r s : Report) where
       at_corner : (es : List Event) → Taken r es → (n : ℕ) (x : Live (Unit {0})) → is_live es n ≡ true → (window_of r.judge).at n ≡ Some x → x.at ≡ point es n
       at_corner es h n x alive e =
           let v = at_live (live_limit r.judge) (window_of r.judge) es h.knows n alive in
-          ap (λ (z : Live (Unit {0})). z.at) (some_same x v.0 (sym e ∙ v.1)) ∙ v.3
+          ap (λ (z : Live (Unit {0})). z.at) (same_Some x v.0 (sym e ∙ v.1)) ∙ v.3

@@ -35,6 +35,13 @@ reported below = judged ReportName (refusal 1024) below
 abbrev pub once_asked_for : ℕ → Outcome Event → Outcome Event
 once_asked_for n o = cond (nat_le n (length o.items)) (outcome (take n o.items) Waiting) o
 
+-- What a report has counted, and how it stands.
+abbrev pub totals_in : Report → Totals
+totals_in r = r.totals
+
+abbrev pub standing_of : Report → Standing
+standing_of r = r.standing
+
 -- The report r has taken the events es, all of them accepted: its totals are those of the whole list, and it judges by that list.
 pub record Taken (r : Report) (es : List Event) : Type 0 where
   pub totals : r.totals ≡ totals_of es

@@ -1,6 +1,6 @@
 -- How a report is spelled.
 use Rattle.std.specs.Prelude.{ℕ, zero, suc, ◌+◌, ◌/◌, ◌%◌, true, false, List, [], ◌∷◌, ◌++◌, ℤ, pos, negsuc, codes, ◌==◌, unsigned_abs}
-use Rattle.mesh_stream.specs.declared.fault.LayerName.{LayerName}
+use Rattle.mesh_stream.specs.declared.fault.Fault.{Fault}
 use Rattle.mesh_stream.specs.declared.stage.Standing.{Standing}
 use Rattle.mesh_stream.specs.declared.stage.Standing.TheVariants.{Waiting, Ended, Faulty}
 use Rattle.mesh_stream.specs.Numbers.{cause_number, layer_word}
@@ -24,31 +24,23 @@ sign (negsuc n) = 45 ∷ []
 abbrev pub spelled_signed : ℤ → List ℕ
 spelled_signed z = sign z ++ spelled (unsigned_abs z)
 
-abbrev pub vertices_line : Totals → List ℕ
-vertices_line t = codes "vertices " ++ spelled t.vertices
+-- A word, then a number.
+unfoldable pub entry : List ℕ → ℤ → List ℕ
+entry word z = word ++ spelled_signed z
 
-abbrev pub triangles_line : Totals → List ℕ
-triangles_line t = codes "triangles " ++ spelled t.triangles
-
-abbrev pub finalized_line : Totals → List ℕ
-finalized_line t = codes "finalized " ++ spelled t.finalized
-
-abbrev pub width_line : Totals → List ℕ
-width_line t = codes "width " ++ spelled t.width
-
-abbrev pub area_line : Totals → List ℕ
-area_line t = codes "area " ++ spelled_signed t.area
+-- A blank, then a number.
+unfoldable pub next_number : ℕ → List ℕ
+next_number n = codes " " ++ spelled n
 
 -- `fault LAYER CAUSE PLACE`
-abbrev pub fault_line : LayerName → ℕ → ℕ → List ℕ
-fault_line layer cause place =
-    codes "fault " ++ (layer_word layer ++ (codes " " ++ (spelled cause ++ (codes " " ++ spelled place))))
+abbrev pub fault_line : Fault → List ℕ
+fault_line f = codes "fault " ++ (layer_word f.layer ++ (next_number (cause_number f.cause) ++ next_number f.place))
 
 -- The stream waits, or ended, or is at fault.
 abbrev pub last_line : Standing → List ℕ
 last_line Waiting = codes "end open"
 last_line Ended = codes "end ok"
-last_line (Faulty f) = fault_line f.layer (cause_number f.cause) f.place
+last_line (Faulty f) = fault_line f
 
 -- A line is ended by byte 10.
 abbrev pub as_line : List ℕ → List ℕ
@@ -59,4 +51,11 @@ as_lines [] = []
 as_lines (l ∷ ls) = as_line l ++ as_lines ls
 
 abbrev pub report_text : Totals → Standing → List ℕ
-report_text t s = as_lines (vertices_line t ∷ triangles_line t ∷ finalized_line t ∷ width_line t ∷ area_line t ∷ last_line s ∷ [])
+report_text t s = as_lines (
+    entry (codes "vertices ") (pos t.vertices)
+    ∷ entry (codes "triangles ") (pos t.triangles)
+    ∷ entry (codes "finalized ") (pos t.finalized)
+    ∷ entry (codes "width ") (pos t.width)
+    ∷ entry (codes "area ") t.area
+    ∷ last_line s
+    ∷ [])

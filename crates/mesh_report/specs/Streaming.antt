@@ -5,6 +5,7 @@ use Rattle.mesh_stream.specs.declared.stage.Standing.{Standing}
 use Rattle.mesh_stream.specs.declared.stage.Standing.TheVariants.{Waiting, Ended, Faulty}
 use Rattle.mesh_stream.specs.Meaning.{closed, Outcome, outcome, Meaning}
 use Rattle.mesh_report.specs.declared.report.Report.{Report}
+use Rattle.mesh_report.specs.declared.stream_report.StreamReport.{StreamReport}
 use Rattle.mesh_report.specs.Spelling.{report_text}
 use Rattle.mesh_report.specs.Reporting.{totals_of, reported, Taken}
 
@@ -13,6 +14,13 @@ abbrev pub resumed : List Event → Standing → Outcome Event → Outcome Event
 resumed es Waiting below = reported (outcome (es ++ below.items) below.stands)
 resumed es Ended below = outcome es Ended
 resumed es (Faulty f) below = outcome es (Faulty f)
+
+-- The stage that a report over a stream feeds, and the report on it.
+abbrev pub stage_of : {S : Type 0} → StreamReport S → S
+stage_of x = x.stage
+
+abbrev pub report_over : {S : Type 0} → StreamReport S → Report
+report_over x = x.report
 
 -- If the text t came next on a stage of meaning G, and then the close, the report r would be that of o.
 pub record WillReport (G : Meaning Event) (r : Report) (t : List ℕ) (o : Outcome Event) : Type 0 where

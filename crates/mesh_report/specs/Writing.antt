@@ -3,17 +3,11 @@ use Rattle.std.specs.Prelude.{◌≡◌, ℕ, ◌<◌, ◌≤◌, List, ◌++◌
 use Rattle.mesh_stream.specs.declared.fault.Refusal.{Refusal}
 use Rattle.mesh_stream.specs.declared.fault.Refusal.TheVariants.{BufferTooSmall}
 use Rattle.mesh_stream.specs.Numbers.{refusal_number}
-use Rattle.mesh_report.specs.Spelling.{as_line}
 
 -- The bytes stand in front, k of them, and every byte behind them is as it was.
 pub record Written (bytes before : List ℕ) (k : ℕ) (after : List ℕ) : Type 0 where
   pub count : k ≡ length bytes
   pub bytes_then_rest : after ≡ bytes ++ drop k before
-
--- A line is written with its line end. It has 40 bytes at the most, so that 256 suffice for six.
-pub record LineWritten (line before : List ℕ) (k : ℕ) (after : List ℕ) : Type 0 where
-  pub written : Written (as_line line) before k after
-  pub short : k ≤ 40
 
 -- A buffer of 256 bytes or more takes the text whole, which never has more.
 pub record Spelled (text before : List ℕ) (k : ℕ) (after : List ℕ) : Type 0 where

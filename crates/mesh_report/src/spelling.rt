@@ -5,14 +5,15 @@ ghost use Rattle.mesh_report.specs.SpellingExamples.{SpellingExamples};
 ghost use Rattle.mesh_report.specs.Writing.{Spelled, SpelledInto};
 
 use crate::totals::Totals;
-use line::{
-    spell_area, spell_finalized, spell_last_line, spell_triangles, spell_vertices, spell_width,
-};
+use entry::Entry;
 use mesh_stream::fault::Refusal;
 use mesh_stream::stage::Standing;
+use number::spell_byte;
+use standing::spell_standing;
 
-mod line;
+mod entry;
 mod number;
+mod standing;
 
 // How many bytes the buffer has at the least.
 const REPORT_ROOM: usize = 256;
@@ -29,17 +30,19 @@ impl Totals {
         Ok(self.spell_lines(standing, buffer))
     }
 
-    // Each line goes into the part of the buffer behind the one before.
+    // Each line goes into the part of the buffer behind the one before. That the rest is lent on from line to line is a form that the
+    // project asks for.
     fn spell_lines(&self, standing: Standing, buffer: &mut [u8]) -> usize
         requires { 256 ≤ length buffer.old }
         ensures { Spelled (report_text self.now standing) buffer.old result buffer.new }
     {
-        let mut at = spell_vertices(buffer, self);
-        at += spell_triangles(&mut buffer[at..], self);
-        at += spell_finalized(&mut buffer[at..], self);
-        at += spell_width(&mut buffer[at..], self);
-        at += spell_area(&mut buffer[at..], self);
-        at + spell_last_line(&mut buffer[at..], standing)
+        let mut at = Entry::Vertices.spell(self, buffer);
+        at += Entry::Triangles.spell(self, &mut buffer[at..]);
+        at += Entry::Finalized.spell(self, &mut buffer[at..]);
+        at += Entry::Width.spell(self, &mut buffer[at..]);
+        at += Entry::Area.spell(self, &mut buffer[at..]);
+        at += spell_standing(&mut buffer[at..], standing);
+        at + spell_byte(&mut buffer[at..], b'\n')
     }
 }
 

@@ -1,5 +1,5 @@
 // What a report counts.
-#[derive(Clone, Copy, PartialEq, Eq, Debug)]
+#[derive(Clone, Copy, PartialEq, Eq, Debug, Default)]
 pub struct Totals {
     pub vertices: u32,
     pub triangles: u32,

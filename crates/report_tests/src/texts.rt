@@ -1,7 +1,8 @@
 // Reports on texts that are pushed in pieces.
-use mesh_reader::reader::TextReader;
-use mesh_report::stream_report::StreamReport;
+ghost use Rattle.std.specs.Iterator.{IsFinite};
+
 use mesh_report::stream_report::text::text_report;
+use std::iter::{once, repeat_n};
 use std::process::Abort;
 use std::str::from_utf8;
 use std::test::Fail;
@@ -32,53 +33,38 @@ const CASES: [Case; 4] = [
     },
 ];
 
-// Finishes a report whose first piece had so many bytes.
-fn check_finished(
+// Pushes the pieces in turn, and compares what the finished report says.
+fn check_pieces<'a, I: Iterator<Item = &'a [u8]> + Drop>(
     rt: &impl Abort,
-    first: usize,
-    report: StreamReport<TextReader>,
+    pieces: I,
     expected: &str,
-) -> Result<(), Fail> {
+) -> Result<(), Fail>
+    requires can_next { I.can_next pieces }
+    requires ends { IsFinite (I.remaining pieces) }
+{
+    let mut report = text_report();
+    for piece in pieces {
+        report.push(piece);
+    }
     let mut buffer = [0; 256];
     let size = report.finish().spell(&mut buffer)?;
     assert!(rt; size <= 256);
-    assert_eq!(rt;
-        from_utf8(&buffer[0..size])?,
-        expected,
-        "first piece of {} bytes",
-        first
-    );
+    assert_eq!(rt; from_utf8(&buffer[0..size])?, expected);
     Ok(())
 }
 
-fn check_in_two(rt: &impl Abort, head: &[u8], tail: &[u8], expected: &str) -> Result<(), Fail> {
-    let mut report = text_report();
-    report.push(head);
-    report.push(tail);
-    check_finished(rt, head.len(), report, expected)
-}
-
-fn check_every_cut(rt: &impl Abort, text: &[u8], expected: &str) -> Result<(), Fail> {
-    for cut in 0..=text.len() {
-        check_in_two(rt, &text[0..cut], &text[cut..], expected)?;
+fn check_every_cut(rt: &impl Abort, case: &Case) -> Result<(), Fail> {
+    for cut in 0..=case.text.len() {
+        let (head, tail) = case.text.split_at(cut);
+        check_pieces(rt, [head, tail].into_iter(), case.report)?;
     }
     Ok(())
-}
-
-fn check_byte_by_byte(rt: &impl Abort, text: &[u8], expected: &str) -> Result<(), Fail> {
-    let mut report = text_report();
-    for byte in text {
-        report.push(&[*byte]);
-    }
-    check_finished(rt, 1, report, expected)
 }
 
 #[test]
 fn in_one_piece(rt: HostRuntime) -> Result<(), Fail> {
     for case in CASES.iter() {
-        let mut report = text_report();
-        report.push(case.text);
-        check_finished(&rt, case.text.len(), report, case.report)?;
+        check_pieces(&rt, once(case.text), case.report)?;
     }
     Ok(())
 }
@@ -86,7 +72,7 @@ fn in_one_piece(rt: HostRuntime) -> Result<(), Fail> {
 #[test]
 fn in_two_pieces(rt: HostRuntime) -> Result<(), Fail> {
     for case in CASES.iter() {
-        check_every_cut(&rt, case.text, case.report)?;
+        check_every_cut(&rt, case)?;
     }
     Ok(())
 }
@@ -94,29 +80,16 @@ fn in_two_pieces(rt: HostRuntime) -> Result<(), Fail> {
 #[test]
 fn byte_by_byte(rt: HostRuntime) -> Result<(), Fail> {
     for case in CASES.iter() {
-        check_byte_by_byte(&rt, case.text, case.report)?;
+        check_pieces(&rt, case.text.chunks(1), case.report)?;
     }
     Ok(())
 }
 
-// Lines that would each be counted.
-fn fill_with_vertices(piece: &mut [u8]) {
-    let line = b"v 1 1 1\n";
-    for (index, byte) in piece.iter_mut().enumerate() {
-        *byte = line[index % 8];
-    }
-}
-
-// The text is at fault, and what follows, more than the reader has room for, changes nothing.
+// The text is at fault, and what follows, more than the reader has room for, changes nothing: lines that would each be counted.
 fn check_at_fault(rt: &impl Abort, text: &[u8], expected: &str) -> Result<(), Fail> {
-    let mut piece = [0; 1000];
-    fill_with_vertices(&mut piece);
-    let mut report = text_report();
-    report.push(text);
-    for _ in 0..9 {
-        report.push(&piece);
-    }
-    check_finished(rt, text.len(), report, expected)
+    let lines = [*b"v 1 1 1\n"; 125];
+    let pieces = once(text).chain(repeat_n(lines.as_flattened(), 9));
+    check_pieces(rt, pieces, expected)
 }
 
 #[test]
@@ -136,15 +109,11 @@ fn much_behind_a_fault(rt: HostRuntime) -> Result<(), Fail> {
 // The last vertex is one too many, although one of the 1,024 before was finalized.
 #[test]
 fn one_live_vertex_too_many(rt: HostRuntime) -> Result<(), Fail> {
-    let mut report = text_report();
-    for _ in 0..1024 {
-        report.push(b"v 0 0 0\n");
-    }
-    report.push(b"x 500\nv 0 0 0\nv 0 0 0\n");
-    check_finished(
+    let first: &[u8] = b"v 0 0 0\n";
+    let last: &[u8] = b"x 500\nv 0 0 0\nv 0 0 0\n";
+    check_pieces(
         &rt,
-        8,
-        report,
+        repeat_n(first, 1024).chain(once(last)),
         "vertices 1025\ntriangles 0\nfinalized 1\nwidth 1024\narea 0\nfault report 9 1027\n",
     )
 }

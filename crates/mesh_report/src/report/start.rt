@@ -12,13 +12,7 @@ impl Report {
     {
         Report {
             judge: Judge::new(),
-            totals: Totals {
-                vertices: 0,
-                triangles: 0,
-                finalized: 0,
-                width: 0,
-                area: 0,
-            },
+            totals: Totals::default(),
             standing: Standing::Waiting,
         }
     }

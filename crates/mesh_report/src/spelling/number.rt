@@ -1,4 +1,4 @@
-// Spelling bytes and numbers into the front of a buffer. Each call answers how many bytes it spelled.
+// Spelling bytes and numbers into the front of a buffer that has room for them. Each call answers how many bytes it spelled.
 ghost use Rattle.std.specs.Prelude.{◌≡◌, ◌+◌, ◌/◌, ◌%◌, ◌<◌, ◌≤◌, [], ◌∷◌, length};
 ghost use Rattle.mesh_report.specs.Spelling.{sign, spelled, spelled_signed};
 ghost use Rattle.mesh_report.specs.Writing.{Written};
@@ -26,13 +26,15 @@ fn tens(n: u64) -> u64
     n / 10
 }
 
+// With `as`, since a remainder by ten is a byte: `u8::try_from` would bring in a failure that never comes.
 fn last_digit(n: u64) -> u8
     ensures { result ≡ 48 + n % 10 }
 {
     b'0' + (n % 10) as u8
 }
 
-// The spelling of the tens, if there are any, then the last digit.
+// The spelling of the tens, if there are any, then the last digit. That it calls itself on the quotient by ten is a form that the
+// project asks for.
 fn spell_number(buffer: &mut [u8], n: u64) -> usize
     requires { length (spelled n) ≤ length buffer.old }
     ensures { Written (spelled n) buffer.old result buffer.new }
@@ -51,7 +53,7 @@ pub(super) fn spell_u32(buffer: &mut [u8], n: u32) -> usize
     ensures written { Written (spelled n) buffer.old result buffer.new }
     ensures short { result ≤ 10 }
 {
-    spell_number(buffer, n as u64)
+    spell_number(buffer, u64::from(n))
 }
 
 // The minus of a negative number, and nothing for any other.
@@ -63,6 +65,7 @@ fn spell_sign(buffer: &mut [u8], n: i64) -> usize
     if n < 0 { spell_byte(buffer, b'-') } else { 0 }
 }
 
+// A minus and 19 digits, or 19 digits, at the most.
 pub(super) fn spell_signed(buffer: &mut [u8], n: i64) -> usize
     requires { 20 ≤ length buffer.old }
     ensures written { Written (spelled_signed n) buffer.old result buffer.new }

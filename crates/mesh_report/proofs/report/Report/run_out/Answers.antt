@@ -3,7 +3,7 @@ use Rattle.mesh_report.proofs.Running.{running_none, running_more, ran_out}
 use Rattle.mesh_report.proofs.report.Report.run_out.Goals as goal
 
 pub loop-init : goal.loop-init
-loop-init g c = (0, running_none c.args.self.now (g.S.Stage.port c.args.stage.now) (g.S.Stage.meaning c.args.stage.now) c.in-Waiting.is)
+loop-init g c = (0, running_none _ _ _ c.in-Waiting.is)
 
 pub loop-preserved : goal.loop-preserved
 loop-preserved g c = (c.loop.invariant.0 + 1, running_more _ _ _ _ _ _ _ _ _ c.loop.invariant.0 c.loop.invariant.1 c.loop-test.ensures)
