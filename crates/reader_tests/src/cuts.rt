@@ -1,4 +1,6 @@
 // A text gives the same however it is cut into pieces.
+ghost use Rattle.std.specs.Iterator.{IsFinite};
+
 use crate::readers::*;
 use mesh_reader::reader::TextReader;
 use mesh_stream::event::Event;
@@ -26,38 +28,24 @@ fn drain(reader: &mut TextReader, events: &mut Vec<Event>) -> Result<Standing, F
     Err(Fail::new("more than 100 events"))
 }
 
-fn feed_and_drain(
+// Feeds the pieces in turn and takes what there is after each, and then closes the reader.
+fn read_pieces<'a, I: Iterator<Item = &'a [u8]> + Drop>(
     rt: &impl Abort,
-    reader: &mut TextReader,
-    piece: &[u8],
-    events: &mut Vec<Event>,
-) -> Result<(), Fail> {
-    assert_eq!(rt; reader.feed(piece)?, piece.len());
-    let _ = drain(reader, events)?;
-    Ok(())
-}
-
-fn close_and_drain(mut reader: TextReader, mut events: Vec<Event>) -> Result<Reading, Fail> {
+    heap: Global,
+    pieces: I,
+) -> Result<Reading, Fail>
+    requires can_next { I.can_next pieces }
+    requires ends { IsFinite (I.remaining pieces) }
+{
+    let mut reader = TextReader::new();
+    let mut events = Vec::new(heap);
+    for piece in pieces {
+        assert_eq!(rt; reader.feed(piece)?, piece.len());
+        let _ = drain(&mut reader, &mut events)?;
+    }
     reader.close()?;
     let standing = drain(&mut reader, &mut events)?;
     Ok(Reading { events, standing })
-}
-
-fn read_in_two(rt: &impl Abort, heap: Global, head: &[u8], tail: &[u8]) -> Result<Reading, Fail> {
-    let mut reader = TextReader::new();
-    let mut events = Vec::new(heap);
-    feed_and_drain(rt, &mut reader, head, &mut events)?;
-    feed_and_drain(rt, &mut reader, tail, &mut events)?;
-    close_and_drain(reader, events)
-}
-
-fn read_byte_by_byte(rt: &impl Abort, heap: Global, text: &[u8]) -> Result<Reading, Fail> {
-    let mut reader = TextReader::new();
-    let mut events = Vec::new(heap);
-    for byte in text {
-        feed_and_drain(rt, &mut reader, &[*byte], &mut events)?;
-    }
-    close_and_drain(reader, events)
 }
 
 fn check_every_cut(
@@ -67,10 +55,11 @@ fn check_every_cut(
     expected: &Reading,
 ) -> Result<(), Fail> {
     for cut in 0..=text.len() {
-        let reading = read_in_two(rt, heap, &text[0..cut], &text[cut..])?;
-        assert_eq!(rt; &reading, expected, "{}", cut);
+        let (head, tail) = text.split_at(cut);
+        let reading = read_pieces(rt, heap, [head, tail].into_iter())?;
+        assert_eq!(rt; &reading, expected, "{cut}");
     }
-    let reading = read_byte_by_byte(rt, heap, text)?;
+    let reading = read_pieces(rt, heap, text.chunks(1))?;
     assert_eq!(rt; &reading, expected, "byte by byte");
     Ok(())
 }

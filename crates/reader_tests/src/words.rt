@@ -8,10 +8,10 @@ use std::test::Fail;
 // Each text is one line, and all are at fault for the same cause.
 fn check_faults(rt: &impl Abort, texts: &[&[u8]], cause: Cause) -> Result<(), Fail> {
     let fault: Result<Event, Standing> = Err(faulty(cause, 1));
-    for (index, text) in texts.iter().enumerate() {
+    for text in texts {
         let mut reader = closed_with(rt, text)?;
-        assert_eq!(rt; reader.next(), fault, "text {}", index);
-        assert_eq!(rt; reader.next(), fault, "text {}", index);
+        assert_eq!(rt; reader.next(), fault, "{text:?}");
+        assert_eq!(rt; reader.next(), fault, "{text:?}");
     }
     Ok(())
 }

@@ -12,10 +12,10 @@ use std::test::Fail;
 
 // A report on each of the lists stands so.
 fn check_all_stand(rt: &impl Abort, lists: &[&[Event]], standing: Standing) -> Result<(), Fail> {
-    for (index, records) in lists.iter().enumerate() {
+    for records in lists {
         let mut report = Report::new();
         report.run_out(&mut ListStage::new(records));
-        assert_eq!(rt; report.standing(), standing, "list {}", index);
+        assert_eq!(rt; report.standing(), standing, "{records:?}");
     }
     Ok(())
 }
