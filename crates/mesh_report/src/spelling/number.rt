@@ -35,6 +35,7 @@ fn last_digit(n: u64) -> u8
 
 // The spelling of the tens, if there are any, then the last digit. That it calls itself on the quotient by ten is a form that the
 // project asks for.
+#[tactic(auto, using(crate::proofs::Digits::length_one, crate::proofs::Digits::length_more))]
 fn spell_number(buffer: &mut [u8], n: u64) -> usize
     requires { length (spelled n) ≤ length buffer.old }
     ensures { Written (spelled n) buffer.old result buffer.new }
