@@ -40,7 +40,7 @@ pub length_more : (n : ℕ) → (n / 10 ≡ 0 → ⊥) → length (spelled n) �
 length_more n e = ap length (spelled_more n e) ∙ length_push (spelled (n / 10)) (48 + n % 10)
 
 -- A number below 10 to the power k + 1 has k + 1 digits at the most.
-pub most_digits : (k n : ℕ) → n < 10 ^ suc k → length (spelled n) ≤ suc k
+most_digits : (k n : ℕ) → n < 10 ^ suc k → length (spelled n) ≤ suc k
 most_digits zero n h = let e = length_one n (omega arith) in omega arith
 most_digits (suc k) n h =
     let fewer : n / 10 < 10 ^ suc k = omega (arith, pow-suc 10 (suc k)) in
@@ -48,3 +48,10 @@ most_digits (suc k) n h =
     (λ z. let e = length_one n z in omega arith)
     (λ z. let e = length_more n z in let m = most_digits k (n / 10) fewer in omega arith)
     (cases_eq (n / 10) 0)
+
+-- The numbers of 32 bits, and how far from 0 those of 64 bits are.
+pub digits_of_count : (n : ℕ) → n < 2 ^ 32 → length (spelled n) ≤ 10
+digits_of_count n h = most_digits 9 n (omega arith)
+
+pub digits_of_distance : (n : ℕ) → n ≤ 2 ^ 63 → length (spelled n) ≤ 19
+digits_of_distance n h = most_digits 18 n (omega arith)

@@ -49,6 +49,7 @@ fn spell_number(buffer: &mut [u8], n: u64) -> usize
 }
 
 // Ten digits at the most.
+#[tactic(auto, using(crate::proofs::Digits::digits_of_count))]
 pub(super) fn spell_u32(buffer: &mut [u8], n: u32) -> usize
     requires { 10 ≤ length buffer.old }
     ensures written { Written (spelled n) buffer.old result buffer.new }
@@ -67,6 +68,7 @@ fn spell_sign(buffer: &mut [u8], n: i64) -> usize
 }
 
 // A minus and 19 digits, or 19 digits, at the most.
+#[tactic(auto, using(crate::proofs::Digits::digits_of_distance))]
 pub(super) fn spell_signed(buffer: &mut [u8], n: i64) -> usize
     requires { 20 ≤ length buffer.old }
     ensures written { Written (spelled_signed n) buffer.old result buffer.new }
