@@ -1,6 +1,4 @@
-use Rattle.std.proofs.Common.{◌-ℤ◌, sym, ◌∙◌, subst, arith, w64, SFits}
-use Rattle.std.proofs.lemmas.Int.{to_z-of_z}
-use Rattle.mesh_report.specs.Areas.{Within}
+use Rattle.std.proofs.Common.{sym, subst, arith, w64, SFits}
 use Rattle.mesh_report.proofs.Areas.{bits_difference, within_fits}
 use Rattle.mesh_report.proofs.area.twice_area.Goals as goal
 
