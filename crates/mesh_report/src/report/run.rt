@@ -7,7 +7,7 @@ use mesh_stream::stage::{Answer, Stage, Standing};
 
 impl Report {
     // Takes the next event of the stage, and says whether it did. Where there is none it stands as the stage does, and where the
-    // event is not accepted it is at fault.
+    // event is not accepted it is at fault. The answer is a bool, since the report itself keeps how it stands.
     fn take_next<S: Stage<Item = Event>>(&mut self, stage: &mut S) -> bool
         ensures { Asked self.old self.new (S.Stage.port stage.old) (S.Stage.meaning stage.old) (S.Stage.port stage.new) (S.Stage.meaning stage.new) result }
     {
