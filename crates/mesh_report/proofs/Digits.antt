@@ -1,5 +1,5 @@
 -- The digits of a number.
-use Rattle.std.proofs.Common.{◌≡◌, ℕ, zero, suc, ◌+◌, ◌/◌, ◌%◌, ◌^◌, ◌<◌, ◌≤◌, Bool, true, false, eqb, List, [], ◌∷◌, ◌++◌, length, sym, refl, ap, ◌∙◌, ⊎_elim, pow-suc, arith}
+use Rattle.std.proofs.Common.{◌≡◌, ℕ, zero, suc, ◌+◌, ◌/◌, ◌%◌, ◌^◌, ◌<◌, ◌≤◌, Bool, true, false, eqb, List, [], ◌∷◌, ◌++◌, length, refl, ap, ◌∙◌, ⊎_elim, pow-suc, arith}
 use Rattle.std.proofs.lemmas.List.{length_push}
 use Rattle.std.proofs.lemmas.Bool.{eq-eqb, ne_eqb, eqb-false, cases_eq}
 use Rattle.mesh_report.specs.Spelling.{spelled, spelled_in}
@@ -22,29 +22,36 @@ same_in (suc t) (suc u) n h k =
     ap (λ (ds : List ℕ). ds ++ ((48 + n % 10) ∷ []))
     (same_front (eqb (n / 10) 0) (spelled_in t (n / 10)) (spelled_in u (n / 10)) (λ e. same_in t u (n / 10) (falls n t e h) (falls n u e k)))
 
--- The quotient q by ten is zero, or it is not.
-pub spelled_one : (n q : ℕ) → q ≡ n / 10 → q ≡ 0 → spelled n ≡ (48 + n % 10) ∷ []
+-- The quotient by ten is zero, or it is not.
+pub spelled_one : (n : ℕ) → n / 10 ≡ 0 → spelled n ≡ (48 + n % 10) ∷ []
 unfolding spelled
-spelled_one n q is e = ap (λ (b : Bool). front b (spelled_in n (n / 10)) ++ ((48 + n % 10) ∷ [])) (eq-eqb (n / 10) 0 (sym is ∙ e))
+spelled_one n e = ap (λ (b : Bool). front b (spelled_in n (n / 10)) ++ ((48 + n % 10) ∷ [])) (eq-eqb (n / 10) 0 e)
 
-pub spelled_more : (n q : ℕ) → q ≡ n / 10 → (q ≡ 0 → ⊥) → spelled n ≡ spelled q ++ ((48 + n % 10) ∷ [])
+pub spelled_more : (n : ℕ) → (n / 10 ≡ 0 → ⊥) → spelled n ≡ spelled (n / 10) ++ ((48 + n % 10) ∷ [])
 unfolding spelled
-spelled_more n q is e =
-    ap (λ (b : Bool). front b (spelled_in n (n / 10)) ++ ((48 + n % 10) ∷ [])) (ne_eqb (n / 10) 0 (λ z. e (is ∙ z)))
-    ∙ ap (λ (ds : List ℕ). ds ++ ((48 + n % 10) ∷ [])) (same_in n (suc (n / 10)) (n / 10) (omega arith) (omega arith) ∙ ap spelled (sym is))
+spelled_more n e =
+    ap (λ (b : Bool). front b (spelled_in n (n / 10)) ++ ((48 + n % 10) ∷ [])) (ne_eqb (n / 10) 0 e)
+    ∙ ap (λ (ds : List ℕ). ds ++ ((48 + n % 10) ∷ [])) (same_in n (suc (n / 10)) (n / 10) (omega arith) (omega arith))
 
-pub length_one : (n q : ℕ) → q ≡ n / 10 → q ≡ 0 → length (spelled n) ≡ 1
-length_one n q is e = ap length (spelled_one n q is e)
+pub length_one : (n : ℕ) → n / 10 ≡ 0 → length (spelled n) ≡ 1
+length_one n e = ap length (spelled_one n e)
 
-pub length_more : (n q : ℕ) → q ≡ n / 10 → (q ≡ 0 → ⊥) → length (spelled n) ≡ length (spelled q) + 1
-length_more n q is e = ap length (spelled_more n q is e) ∙ length_push (spelled q) (48 + n % 10)
+pub length_more : (n : ℕ) → (n / 10 ≡ 0 → ⊥) → length (spelled n) ≡ length (spelled (n / 10)) + 1
+length_more n e = ap length (spelled_more n e) ∙ length_push (spelled (n / 10)) (48 + n % 10)
 
 -- A number below 10 to the power k + 1 has k + 1 digits at the most.
-pub most_digits : (k n : ℕ) → n < 10 ^ suc k → length (spelled n) ≤ suc k
-most_digits zero n h = let e = length_one n (n / 10) refl (omega arith) in omega arith
+most_digits : (k n : ℕ) → n < 10 ^ suc k → length (spelled n) ≤ suc k
+most_digits zero n h = let e = length_one n (omega arith) in omega arith
 most_digits (suc k) n h =
     let fewer : n / 10 < 10 ^ suc k = omega (arith, pow-suc 10 (suc k)) in
     ⊎_elim
-    (λ z. let e = length_one n (n / 10) refl z in omega arith)
-    (λ z. let e = length_more n (n / 10) refl z in let m = most_digits k (n / 10) fewer in omega arith)
+    (λ z. let e = length_one n z in omega arith)
+    (λ z. let e = length_more n z in let m = most_digits k (n / 10) fewer in omega arith)
     (cases_eq (n / 10) 0)
+
+-- The numbers of 32 bits, and how far from 0 those of 64 bits are.
+pub digits_of_count : (n : ℕ) → n < 2 ^ 32 → length (spelled n) ≤ 10
+digits_of_count n h = most_digits 9 n (omega arith)
+
+pub digits_of_distance : (n : ℕ) → n ≤ 2 ^ 63 → length (spelled n) ≤ 19
+digits_of_distance n h = most_digits 18 n (omega arith)

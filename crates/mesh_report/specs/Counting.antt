@@ -9,16 +9,16 @@ use Rattle.mesh_report.specs.declared.report.Report.{Report}
 use Rattle.mesh_report.specs.Areas.{twice_area}
 
 abbrev pub one_vertex : Totals → Totals
-one_vertex t = record { vertices = t.vertices + 1; triangles = t.triangles; finalized = t.finalized; width = t.width; area = t.area }
+one_vertex t = record t { vertices = t.vertices + 1 }
 
 abbrev pub one_triangle : ℤ → Totals → Totals
-one_triangle z t = record { vertices = t.vertices; triangles = t.triangles + 1; finalized = t.finalized; width = t.width; area = t.area +ℤ z }
+one_triangle z t = record t { triangles = t.triangles + 1; area = t.area +ℤ z }
 
 abbrev pub one_finalized : Totals → Totals
-one_finalized t = record { vertices = t.vertices; triangles = t.triangles; finalized = t.finalized + 1; width = t.width; area = t.area }
+one_finalized t = record t { finalized = t.finalized + 1 }
 
 abbrev pub at_least_wide : ℕ → Totals → Totals
-at_least_wide n t = record { vertices = t.vertices; triangles = t.triangles; finalized = t.finalized; width = max t.width n; area = t.area }
+at_least_wide n t = record t { width = max t.width n }
 
 -- The judge decides, an accepted event is counted, and no other.
 module _ (r : Report) where

@@ -15,18 +15,15 @@ resumed es Waiting below = reported (outcome (es ++ below.items) below.stands)
 resumed es Ended below = outcome es Ended
 resumed es (Faulty f) below = outcome es (Faulty f)
 
--- The stage that a report over a stream feeds, and the report on it.
-abbrev pub stage_of : {S : Type 0} → StreamReport S → S
-stage_of x = x.stage
-
-abbrev pub report_over : {S : Type 0} → StreamReport S → Report
-report_over x = x.report
-
 -- If the text t came next on a stage of meaning G, and then the close, the report r would be that of o.
 pub record WillReport (G : Meaning Event) (r : Report) (t : List ℕ) (o : Outcome Event) : Type 0 where
   pub so_far : List Event
   pub taken : Taken r so_far
   pub then_on : o ≡ resumed so_far r.standing (G t closed)
+
+-- The same of a report over a stream, whose stage has this meaning.
+abbrev pub WillSay : {S : Type 0} → (S → Meaning Event) → StreamReport S → List ℕ → Outcome Event → Type 0
+WillSay means x t o = WillReport (means x.stage) x.report t o
 
 -- The report of an outcome, spelled.
 abbrev pub report_of : Outcome Event → List ℕ

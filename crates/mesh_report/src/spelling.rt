@@ -30,8 +30,8 @@ impl Totals {
         Ok(self.spell_lines(standing, buffer))
     }
 
-    // Each line goes into the part of the buffer behind the one before. That the rest is lent on from line to line is a form that the
-    // project asks for.
+    // Each line goes into the part of the buffer behind the one before: that the rest is lent on from line to line is a form that
+    // the project asks for.
     fn spell_lines(&self, standing: Standing, buffer: &mut [u8]) -> usize
         requires { 256 ≤ length buffer.old }
         ensures { Spelled (report_text self.now standing) buffer.old result buffer.new }

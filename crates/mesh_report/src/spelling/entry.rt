@@ -43,7 +43,7 @@ impl Entry {
         }
     }
 
-    // The line of the entry, with its line end.
+    // The line of the entry: a word of ten bytes, a number of 20 and the line end at the most.
     pub(super) fn spell(self, totals: &Totals, buffer: &mut [u8]) -> usize
         requires { 31 ≤ length buffer.old }
         ensures written { Written (as_line (entry (word_of self) (number_of self totals.now))) buffer.old result buffer.new }

@@ -35,6 +35,7 @@ fn last_digit(n: u64) -> u8
 
 // The spelling of the tens, if there are any, then the last digit. That it calls itself on the quotient by ten is a form that the
 // project asks for.
+#[tactic(auto, using(crate::proofs::Digits::length_one, crate::proofs::Digits::length_more))]
 fn spell_number(buffer: &mut [u8], n: u64) -> usize
     requires { length (spelled n) ≤ length buffer.old }
     ensures { Written (spelled n) buffer.old result buffer.new }
@@ -48,6 +49,7 @@ fn spell_number(buffer: &mut [u8], n: u64) -> usize
 }
 
 // Ten digits at the most.
+#[tactic(auto, using(crate::proofs::Digits::digits_of_count))]
 pub(super) fn spell_u32(buffer: &mut [u8], n: u32) -> usize
     requires { 10 ≤ length buffer.old }
     ensures written { Written (spelled n) buffer.old result buffer.new }
@@ -66,6 +68,7 @@ fn spell_sign(buffer: &mut [u8], n: i64) -> usize
 }
 
 // A minus and 19 digits, or 19 digits, at the most.
+#[tactic(auto, using(crate::proofs::Digits::digits_of_distance))]
 pub(super) fn spell_signed(buffer: &mut [u8], n: i64) -> usize
     requires { 20 ≤ length buffer.old }
     ensures written { Written (spelled_signed n) buffer.old result buffer.new }

@@ -1,6 +1,4 @@
-use Rattle.std.proofs.Common.{◌-ℤ◌, sym, ◌∙◌, subst, arith, w64, SFits}
-use Rattle.std.proofs.lemmas.Int.{to_z-of_z}
-use Rattle.mesh_report.specs.Areas.{Within}
+use Rattle.std.proofs.Common.{sym, subst, arith, w64, SFits}
 use Rattle.mesh_report.proofs.Areas.{bits_difference, within_fits}
 use Rattle.mesh_report.proofs.area.twice_area.Goals as goal
 
@@ -8,9 +6,3 @@ pub overflow_sub-result : goal.overflow_sub-result
 overflow_sub-result c =
     let p = bits_difference c.rectangle_of.result c.rectangle_of-2.result (record { sfits = c.rectangle_of.type_inv }) (record { sfits = c.rectangle_of-2.type_inv }) 40000000000 40000000000 80000000000 (omega arith) c.rectangle_of.ensures.1 c.rectangle_of-2.ensures.1 in
     subst (SFits w64) (sym p.0) (within_fits 80000000000 _ p.1 (omega arith))
-
-pub returns : goal.returns
-returns c =
-    let p = bits_difference c.rectangle_of.result c.rectangle_of-2.result (record { sfits = c.rectangle_of.type_inv }) (record { sfits = c.rectangle_of-2.type_inv }) 40000000000 40000000000 80000000000 (omega arith) c.rectangle_of.ensures.1 c.rectangle_of-2.ensures.1 in
-    let e = to_z-of_z w64 _ (overflow_sub-result c) ∙ p.0 in
-    (e ∙ (λ n. c.rectangle_of.ensures.0 n -ℤ c.rectangle_of-2.ensures.0 n), subst (Within 80000000000) (sym e) p.1)

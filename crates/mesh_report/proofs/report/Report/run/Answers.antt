@@ -1,4 +1,4 @@
-use Rattle.std.proofs.Common.{◌≡◌, subst, arith}
+use Rattle.std.proofs.Common.{◌≡◌, arith}
 use Rattle.mesh_report.proofs.Running.{running_none, running_more, ran_all, ran_short}
 use Rattle.mesh_report.proofs.report.Report.run.Goals as goal
 

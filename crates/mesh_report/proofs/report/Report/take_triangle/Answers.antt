@@ -36,6 +36,6 @@ returns c =
     (few_triangles (window_of r.judge) (window_of j) r.totals (t.0 0).window j.few r.sums) in (
       k,
       t,
-      (λ i. record { vertices = r.totals.vertices; triangles = r.totals.triangles + 1; finalized = r.totals.finalized; width = r.totals.width; area = (a.0 ∙ (λ n. r.totals.area +ℤ c.twice_area.ensures.0 n)) i }),
+      (λ i. record r.totals { triangles = r.totals.triangles + 1; area = (a.0 ∙ (λ n. r.totals.area +ℤ c.twice_area.ensures.0 n)) i }),
       refl,
     )

@@ -1,4 +1,4 @@
-use Rattle.std.proofs.Common.{◌++◌, ◌∙◌, w64}
+use Rattle.std.proofs.Common.{◌∙◌, w64}
 use Rattle.std.proofs.lemmas.Int.{to_z-of_z}
 use Rattle.mesh_report.specs.Spelling.{entry, as_line}
 use Rattle.mesh_report.proofs.Joining.{behind, same_bytes}
