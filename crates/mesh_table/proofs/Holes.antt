@@ -1,12 +1,13 @@
 -- The steps that close the hole a removed record leaves.
 use Rattle.std.proofs.Common.{◌≡◌, ℕ, ◌+◌, ◌<◌, ◌≤◌, List, length, set, Some, None, sym, refl, ap, ◌∙◌, subst, ⊎_elim, arith, length-set}
 use Rattle.std.proofs.lemmas.List.{get_or-set_same, get_or-set_other}
+use Rattle.std.proofs.lemmas.Option.{none-some}
 use Rattle.std.proofs.lemmas.Bool.{cases_lt}
 use Rattle.mesh_table.specs.declared.key.Key.{Key}
 use Rattle.mesh_table.specs.Probing.{Slot, Empty, Full, slot_at, slot_ahead, steps_between, home_slot, filled, lookup, Cut, Sound, Holed, CutOff, Alike}
 use Rattle.mesh_table.proofs.Keys.{key_cases}
 use Rattle.mesh_table.proofs.Steps.{ahead_add, ahead_same, ahead_steps, steps_below, steps_ahead, home_below}
-use Rattle.mesh_table.proofs.SlotCases.{empty_full, none_some, full_key, empty_misses}
+use Rattle.mesh_table.proofs.SlotCases.{empty_full, full_key, empty_misses}
 use Rattle.mesh_table.proofs.Finite.{lookup_here, size_set, was}
 use Rattle.mesh_table.proofs.Drift.{drift, drift_moved}
 use Rattle.mesh_table.proofs.Writes.{Written, put_full, put_empty}
@@ -127,7 +128,7 @@ module _ {V : Type 0} (n : ℕ) (ss : List (Slot V)) (hole : ℕ) (len : length 
     placed : Written us ts k (Some v)
     placed =
         put_full n us (length-set ss i Empty ∙ len) lifted.distinct k v hole h.inside
-        (λ j _ w p. none_some (lookup us k) w lifted.becomes.here (lookup_here us j k w lifted.distinct p))
+        (λ j _ w p. none-some w (sym lifted.becomes.here ∙ lookup_here us j k w lifted.distinct p))
         (λ q _. empty_misses (slot_at us hole) q bare')
 
     -- an empty slot other than i was empty, and is not the hole

@@ -6,8 +6,7 @@ use Rattle.mesh_table.specs.Keys.{same_key, part_spread, spread}
 
 -- a key is its two parts
 pub key_parts : (a b : Key) → a.first ≡ b.first → a.second ≡ b.second → a ≡ b
-key_parts a b p q =
-    ap (λ (x : ℕ). record { first = x; second = a.second }) p ∙ ap (λ (y : ℕ). record { first = b.first; second = y }) q
+key_parts a b p q = λ i. record { first = p i; second = q i }
 
 pub same_key_refl : (k : Key) → same_key k k ≡ true
 same_key_refl k =

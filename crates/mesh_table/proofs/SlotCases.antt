@@ -7,9 +7,6 @@ use Rattle.mesh_table.specs.Probing.{Slot, Empty, Full, filled, Misses, Foreign}
 pub empty_full : {V : Type 0} (s : Slot V) (k : Key) (v : V) → s ≡ Empty → s ≡ Full k v → ⊥
 empty_full s k v p q = cc
 
-pub none_some : {A : Type 0} (o : Option A) (v : A) → o ≡ None → o ≡ Some v → ⊥
-none_some o v p q = cc
-
 pub some_same : {A : Type 0} (a b : A) → Some a ≡ Some b → a ≡ b
 some_same a b e = cc
 
