@@ -1,5 +1,5 @@
 -- A slot is empty or full, and a full one has one key.
-use Rattle.std.proofs.Common.{◌≡◌, Some, None, Option, sym, refl, ap, ◌∙◌, subst}
+use Rattle.std.proofs.Common.{◌≡◌, Some, None, sym, refl, ap, ◌∙◌, subst}
 use Rattle.mesh_table.specs.declared.key.Key.{Key}
 use Rattle.mesh_table.specs.declared.ring.Record.{Record}
 use Rattle.mesh_table.specs.Probing.{Slot, Empty, Full, filled, Misses, Foreign}
