@@ -24,9 +24,6 @@ pub record Moved {V : Type 0} (n : ℕ) (ss ts : List (Slot V)) (i : ℕ) : Type
   pub alike : Alike ss ts
   pub nearer : drift n 0 ts < drift n 0 ss
 
-pub far_one : {V : Type 0} (n : ℕ) (ss : List (Slot V)) (hole : ℕ) → Far n ss hole 1
-far_one n ss hole k v d e en de at p = omega arith
-
 pub alike_more : {V : Type 0} (rs ss ts : List (Slot V)) → Alike rs ss → Alike ss ts → Alike rs ts
 alike_more rs ss ts a b = record { size = b.size ∙ a.size; lookup = λ q. b.lookup q ∙ a.lookup q }
 
