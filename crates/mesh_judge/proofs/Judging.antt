@@ -2,6 +2,7 @@
 use Rattle.std.proofs.Common.{◌≡◌, ℕ, ◌+◌, ◌-◌, ◌<◌, ◌≤◌, Bool, true, false, cond, ◌&&◌, eqb, ltb, leb, ◌⊎◌, List, [], ◌∷◌, ◌++◌, is_some, Some, None, Ok, Err, Option, Result, sym, refl, ap, ◌∙◌, subst, inl, inr, arith, rules}
 use Rattle.std.specs.Option.{ok_or}
 use Rattle.std.specs.Result.{IsOk}
+use Rattle.std.proofs.lemmas.Option.{none-some}
 use Rattle.std.proofs.lemmas.Bool.{eqb-true, eqb-false, and_parts, and_from, both_ways, leb-true, le-leb, ltb-true, lt-ltb, le-ltb}
 use Rattle.mesh_stream.specs.declared.event.Point.{Point}
 use Rattle.mesh_stream.specs.declared.event.Event.{Event}
@@ -27,7 +28,7 @@ use Rattle.mesh_judge.specs.Accepting.{unless, refusal}
 use Rattle.mesh_judge.specs.Windows.{Window, fresh, put, there, refuses, enters, counted, leaves, first, end_by, ending, Knows}
 use Rattle.mesh_judge.specs.Records.{sound_record, Stray}
 use Rattle.mesh_judge.specs.Judging.{window_of, live_limit, KnowsList, Begun, Accepts, Rejects, KeptAt, Cornered, CornersFound, TakenOut, Left, Stands}
-use Rattle.mesh_judge.proofs.Refusing.{some_not_none, unless_none}
+use Rattle.mesh_judge.proofs.Refusing.{unless_none}
 use Rattle.mesh_judge.proofs.Knowing.{first_none, first_some, refuses_is, ending_is, knows_none, knows_vertex, knows_triangle, knows_final}
 
 -- windows alike at every number are one window
@@ -119,13 +120,13 @@ module _ {T : Type 0} {n : ℕ} (t u : Table (Live T) n) (highest : ℕ) (sound 
   gone_stray q c = no_stray u highest (λ k v e. at k v e (key_cases k q))
     where
       at : (k : Key) (v : Live T) → record_at u k ≡ Some v → (k ≡ q) ⊎ (k ≡ q → ⊥) → sound_record highest k v ≡ true
-      at k v e (inl p) = absurd (some_not_none v (sym e ∙ ap (record_at u) p ∙ c.here))
+      at k v e (inl p) = absurd (none-some v (sym (ap (record_at u) p ∙ c.here) ∙ e))
       at k v e (inr p) = kept_sound t highest sound k v (sym (c.other k p) ∙ e)
 
 -- A new judge.
 
 pub empty_stray : {T : Type 0} {n : ℕ} (t : Table (Live T) n) (most highest : ℕ) → Empty most t → Stray t highest → ⊥
-empty_stray t most highest e (k, v, q, f) = some_not_none v (sym q ∙ e.none k)
+empty_stray t most highest e (k, v, q, f) = none-some v (sym (e.none k) ∙ q)
 
 pub begun : {T : Type 0} (j : Judge T) (most : ℕ) → Empty most j.live → j.highest ≡ 0 → j.triangles ≡ 0 → Begun most j
 begun {T} j most e h t =

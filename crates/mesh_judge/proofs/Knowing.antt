@@ -1,5 +1,6 @@
 -- A window that knows a list of accepted events judges as the list does, and knows the list with one event more.
 use Rattle.std.proofs.Common.{◌≡◌, ℕ, zero, suc, ◌+◌, ◌-◌, ◌<◌, ◌≤◌, min, max, Bool, true, false, cond, not, ◌&&◌, ◌||◌, eqb, ltb, leb, ◌⊎◌, List, [], ◌∷◌, ◌++◌, length, Some, None, filter, Option, sym, refl, ap, ◌∙◌, subst, inl, inr, append_assoc, append-nil, arith, length-append}
+use Rattle.std.proofs.lemmas.Option.{none-some}
 use Rattle.std.proofs.lemmas.Bool.{both_ways, ltb-true, lt-ltb, ltb-false, le-ltb, leb-true, leb-false, and_parts, eqb-true, eq-eqb, or_cases, or_right, or_parts, not-true, false_from_ne_true}
 use Rattle.std.proofs.lemmas.List.Folds.{list_any-append}
 use Rattle.mesh_stream.specs.declared.event.Point.{Point}
@@ -20,7 +21,7 @@ use Rattle.mesh_stream.proofs.Distinct.{Distinct, distinct_kept, eqb_comm}
 use Rattle.mesh_judge.specs.declared.live.Live.{Live}
 use Rattle.mesh_judge.specs.Accepting.{Rules, unless, refusal, AcceptedAfter, fault, lowest, end_with, stands_over}
 use Rattle.mesh_judge.specs.Windows.{Window, fresh, there, refuses, enters, counted, leaves, or_next, first, end_by, ending, Origin, origin, origin_by, origin_in, largest, Knows}
-use Rattle.mesh_judge.proofs.Refusing.{VertexOk, vertex_ok, final_ok, some_not_none}
+use Rattle.mesh_judge.proofs.Refusing.{VertexOk, vertex_ok, final_ok}
 use Rattle.mesh_judge.proofs.Living.{live_introduced, live_vertex, live_triangle, live_final}
 use Rattle.mesh_judge.proofs.Sounding.{sound, new_not_final}
 
@@ -121,7 +122,7 @@ lowest_least n (k ∷ ks) = let ih = lowest_least (min n k) ks in (under ih.0, �
 
 -- the origin of what is there, taken apart
 origin_some : {T : Type 0} (o : Option (Live T)) (g : Origin) → origin o ≡ Some g → (v : Live T) × (o ≡ Some v) × (v.place ≡ g.place) × (v.at ≡ g.point)
-origin_some None g e = absurd (some_not_none g (sym e))
+origin_some None g e = absurd (none-some g e)
 origin_some {T} (Some v) g e = (v, refl, ap (λ (x : Origin). x.place) (inside e), ap (λ (x : Origin). x.point) (inside e))
   where
     inside : {x y : Origin} → Some x ≡ Some y → x ≡ y
@@ -129,7 +130,7 @@ origin_some {T} (Some v) g e = (v, refl, ap (λ (x : Origin). x.place) (inside e
 
 origin_none : {T : Type 0} (o : Option (Live T)) → origin o ≡ None → o ≡ None
 origin_none None e = refl
-origin_none (Some v) e = absurd (some_not_none _ e)
+origin_none (Some v) e = absurd (none-some _ (sym e))
 
 module _ {T : Type 0} (limit : ℕ) (w : Window T) (es : List Event) (k : Knows limit w es) where
   there_is : (n : ℕ) → there (w.at n) ≡ is_live es n

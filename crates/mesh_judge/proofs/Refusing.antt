@@ -1,5 +1,6 @@
 -- What it says of an event of each kind that it is accepted.
-use Rattle.std.proofs.Common.{◌≡◌, ℕ, ◌<◌, Bool, true, false, ◌&&◌, List, length, Some, None, Option, refl}
+use Rattle.std.proofs.Common.{◌≡◌, ℕ, ◌<◌, Bool, true, false, ◌&&◌, List, length, None, Option, sym, refl}
+use Rattle.std.proofs.lemmas.Option.{none-some}
 use Rattle.std.proofs.lemmas.Bool.{and_parts, ltb-true}
 use Rattle.mesh_stream.specs.declared.event.Point.{Point}
 use Rattle.mesh_stream.specs.declared.event.Event.{Event}
@@ -11,12 +12,9 @@ use Rattle.mesh_stream.specs.Live.{live, is_live}
 use Rattle.mesh_stream.specs.Ranges.{in_space, vertex_number}
 use Rattle.mesh_judge.specs.Accepting.{unless, refusal}
 
-pub some_not_none : {A : Type 0} (c : A) → Some c ≡ None → ⊥
-some_not_none c e = cc
-
 pub unless_none : (b : Bool) (c : Cause) (o : Option Cause) → unless b c o ≡ None → (b ≡ true) × (o ≡ None)
 unless_none true c o e = (refl, e)
-unless_none false c o e = absurd (some_not_none c e)
+unless_none false c o e = absurd (none-some c (sym e))
 
 pub record VertexOk (limit : ℕ) (before : List Event) (n : ℕ) (v : Point) : Type 0 where
   pub in_range : (in_space v && vertex_number n) ≡ true

@@ -43,10 +43,10 @@ module _ {V : Type 0} (n : ℕ) (ss : List (Slot V)) (k : Key) (len : length ss 
       (λ (l : d < o.0). reach (k, v, d, o.0, o.1, here, l, emp)))
       (cases_order o.0 d)
 
-  pub sought : Distinct ss → Reached n ss → (r : Probe) → Probed n ss k r → Sought n ss k r
-  sought distinct reach (Found i) (l, has) =
-      let here : lookup ss k ≡ Some has.0 = lookup_here ss i k has.0 distinct has.1 in
-      (l, has, here ∙ sym (ap value_in has.1), ap is_some here)
+  pub sought : Distinct ss → Reached n ss → (r : Probe n) → Probed n ss k r → Sought n ss k r
+  sought distinct reach (Found i) has =
+      let here : lookup ss k ≡ Some has.0 = lookup_here ss i.number k has.0 distinct has.1 in
+      (has, here ∙ sym (ap value_in has.1), ap is_some here)
   sought distinct reach (Vacant i) vac = (
     vac,
     lookup_none ss k (vacant_misses reach vac.steps (ap (slot_at ss) (sym vac.at) ∙ vac.bare) vac.passed),

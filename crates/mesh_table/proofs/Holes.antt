@@ -1,12 +1,13 @@
 -- The steps that close the hole a removed record leaves.
 use Rattle.std.proofs.Common.{◌≡◌, ℕ, ◌+◌, ◌<◌, ◌≤◌, List, length, set, Some, None, sym, refl, ap, ◌∙◌, subst, ⊎_elim, arith, length-set}
 use Rattle.std.proofs.lemmas.List.{get_or-set_same, get_or-set_other}
+use Rattle.std.proofs.lemmas.Option.{none-some}
 use Rattle.std.proofs.lemmas.Bool.{cases_lt}
 use Rattle.mesh_table.specs.declared.key.Key.{Key}
 use Rattle.mesh_table.specs.Probing.{Slot, Empty, Full, slot_at, slot_ahead, steps_between, home_slot, filled, lookup, Cut, Sound, Holed, CutOff, Alike}
 use Rattle.mesh_table.proofs.Keys.{key_cases}
 use Rattle.mesh_table.proofs.Steps.{ahead_add, ahead_same, ahead_steps, steps_below, steps_ahead, home_below}
-use Rattle.mesh_table.proofs.SlotCases.{empty_full, none_some, full_key, empty_misses}
+use Rattle.mesh_table.proofs.SlotCases.{empty_full, full_key, empty_misses}
 use Rattle.mesh_table.proofs.Finite.{lookup_here, size_set, was}
 use Rattle.mesh_table.proofs.Drift.{drift, drift_moved}
 use Rattle.mesh_table.proofs.Writes.{Written, put_full, put_empty}
@@ -22,9 +23,6 @@ pub record Moved {V : Type 0} (n : ℕ) (ss ts : List (Slot V)) (i : ℕ) : Type
   pub holed : Holed n ts i
   pub alike : Alike ss ts
   pub nearer : drift n 0 ts < drift n 0 ss
-
-pub far_one : {V : Type 0} (n : ℕ) (ss : List (Slot V)) (hole : ℕ) → Far n ss hole 1
-far_one n ss hole k v d e en de at p = omega arith
 
 pub alike_more : {V : Type 0} (rs ss ts : List (Slot V)) → Alike rs ss → Alike ss ts → Alike rs ts
 alike_more rs ss ts a b = record { size = b.size ∙ a.size; lookup = λ q. b.lookup q ∙ a.lookup q }
@@ -127,7 +125,7 @@ module _ {V : Type 0} (n : ℕ) (ss : List (Slot V)) (hole : ℕ) (len : length 
     placed : Written us ts k (Some v)
     placed =
         put_full n us (length-set ss i Empty ∙ len) lifted.distinct k v hole h.inside
-        (λ j _ w p. none_some (lookup us k) w lifted.becomes.here (lookup_here us j k w lifted.distinct p))
+        (λ j _ w p. none-some w (sym lifted.becomes.here ∙ lookup_here us j k w lifted.distinct p))
         (λ q _. empty_misses (slot_at us hole) q bare')
 
     -- an empty slot other than i was empty, and is not the hole

@@ -1,13 +1,12 @@
 -- Keys that are the same, and the range of the spread.
-use Rattle.std.proofs.Common.{◌≡◌, ℕ, ◌+◌, ◌^◌, ◌<◌, true, false, eqb, ◌⊎◌, sym, refl, ap, ◌∙◌, inl, inr, ⊎_elim, mod-lt, lit<}
+use Rattle.std.proofs.Common.{◌≡◌, ◌+◌, ◌^◌, ◌<◌, true, false, eqb, ◌⊎◌, sym, refl, ap, ◌∙◌, inl, inr, ⊎_elim, mod-lt, lit<}
 use Rattle.std.proofs.lemmas.Bool.{cases_Bool, both_ways, eq-eqb, eqb-true, and_from, and_parts}
 use Rattle.mesh_table.specs.declared.key.Key.{Key}
 use Rattle.mesh_table.specs.Keys.{same_key, part_spread, spread}
 
 -- a key is its two parts
 pub key_parts : (a b : Key) → a.first ≡ b.first → a.second ≡ b.second → a ≡ b
-key_parts a b p q =
-    ap (λ (x : ℕ). record { first = x; second = a.second }) p ∙ ap (λ (y : ℕ). record { first = b.first; second = y }) q
+key_parts a b p q = λ i. record { first = p i; second = q i }
 
 pub same_key_refl : (k : Key) → same_key k k ≡ true
 same_key_refl k =

@@ -1,6 +1,7 @@
 -- The lowest vertex number, slot by slot.
 use Rattle.std.proofs.Common.{◌≡◌, ℕ, ◌+◌, ◌<◌, ◌≤◌, Bool, true, false, cond, ◌&&◌, eqb, leb, ◌⊎◌, List, length, Some, None, Option, sym, refl, ap, ◌∙◌, subst, inl, inr, ⊎_elim, arith}
 use Rattle.std.proofs.lemmas.List.{get_or_past}
+use Rattle.std.proofs.lemmas.Option.{none-some}
 use Rattle.std.proofs.lemmas.Bool.{cases_lt, and_parts, and_cases, eqb-true, eqb-false, leb-true, leb-false}
 use Rattle.mesh_table.specs.declared.key.Key.{Key}
 use Rattle.mesh_table.specs.declared.ring.Record.{Record}
@@ -8,7 +9,7 @@ use Rattle.mesh_table.specs.Keys.{vertex_key}
 use Rattle.mesh_table.specs.Probing.{Slot, Empty, Full, slot_at, lookup, Distinct}
 use Rattle.mesh_table.specs.LowestVertex.{bound, lower, LowestIn}
 use Rattle.mesh_table.proofs.Keys.{key_parts}
-use Rattle.mesh_table.proofs.SlotCases.{empty_full, none_some, some_same, full_key}
+use Rattle.mesh_table.proofs.SlotCases.{empty_full, some_same, full_key}
 use Rattle.mesh_table.proofs.Finite.{lookup_none, lookup_here}
 
 -- what is known of the lowest record among the first i slots
@@ -42,7 +43,7 @@ module _ {V : Type 0} (ss : List (Slot V)) (i m : ℕ) (b : Option (Record V)) (
       let l : r.key.first ≤ bound b m = leb-true r.key.first (bound b m) h.1 in
       record {
         within = omega (arith, near.within);
-        lowest = λ j n w x y le. (low j n w x y le l, λ n. none_some (Some r) r n refl);
+        lowest = λ j n w x y le. (low j n w x y le l, λ n. none-some r (sym n));
         here = λ q y. subst (λ (q : Record V). lookup ss (vertex_key q.key.first) ≡ Some q.value) (some_same r q y)
             (ap (lookup ss) (key_parts (vertex_key r.key.first) r.key refl (sym z)) ∙ lookup_here ss i r.key r.value a p);
       }

@@ -1,14 +1,11 @@
 -- A slot is empty or full, and a full one has one key.
-use Rattle.std.proofs.Common.{◌≡◌, Some, None, Option, sym, refl, ap, ◌∙◌, subst}
+use Rattle.std.proofs.Common.{◌≡◌, Some, None, sym, refl, ap, ◌∙◌}
 use Rattle.mesh_table.specs.declared.key.Key.{Key}
 use Rattle.mesh_table.specs.declared.ring.Record.{Record}
 use Rattle.mesh_table.specs.Probing.{Slot, Empty, Full, filled, Misses, Foreign}
 
 pub empty_full : {V : Type 0} (s : Slot V) (k : Key) (v : V) → s ≡ Empty → s ≡ Full k v → ⊥
 empty_full s k v p q = cc
-
-pub none_some : {A : Type 0} (o : Option A) (v : A) → o ≡ None → o ≡ Some v → ⊥
-none_some o v p q = cc
 
 pub some_same : {A : Type 0} (a b : A) → Some a ≡ Some b → a ≡ b
 some_same a b e = cc
@@ -31,9 +28,6 @@ foreign_full (Some r) k f e = cc
 pub foreign_misses : {V : Type 0} (s : Slot V) (k : Key) → Foreign s k → Misses s k
 foreign_misses None k f v e = f
 foreign_misses (Some r) k f v e = f (full_key (Some r) r.key k r.value v refl e)
-
-pub full_foreign : {V : Type 0} (s : Slot V) (j k : Key) (v : V) → s ≡ Full j v → (j ≡ k → ⊥) → Foreign s k
-full_foreign {V} s j k v e ne = subst (λ (x : Slot V). Foreign x k) (sym e) ne
 
 pub foreign_filled : {V : Type 0} (s : Slot V) (k : Key) → Foreign s k → filled s ≡ 1
 foreign_filled None k f = absurd f

@@ -123,8 +123,8 @@ module _ {V : Type 0} (n : ℕ) (ss : List (Slot V)) (len : length ss ≡ n) (di
           (cases_eq j i)
 
   module _ (pos : 0 < n) (re : Reached n ss) where
-    pub took : (k : Key) (v : V) (i : ℕ) → EndsAt n ss k i → Took n ss (set ss i (Full k v)) k v
-    took k v i (inl (lt, has, at, there)) =
+    pub took : (k : Key) (v : V) (i : ℕ) → i < n → EndsAt n ss k i → Took n ss (set ss i (Full k v)) k v
+    took k v i lt (inl (has, at, there)) =
         let l : i < length ss = omega arith in
         let o = ahead_onto n (home_slot n k) i (home_below n k pos) lt in
         let p =
@@ -139,10 +139,10 @@ module _ {V : Type 0} (n : ℕ) (ss : List (Slot V)) (len : length ss ≡ n) (di
           becomes = p.becomes;
           counted = omega (arith, size_set ss i (Full k v) l, ap filled has.1, ap (λ b. cond {A = ℕ} b 1 0) there);
         }
-    took k v i (inr (vac, none)) =
-        let l : i < length ss = omega (arith, vac.inside) in
+    took k v i lt (inr (vac, none)) =
+        let l : i < length ss = omega arith in
         let miss = vacant_misses n ss k len (home_below n k pos) re vac.steps (ap (slot_at ss) (sym vac.at) ∙ vac.bare) vac.passed in
-        let p = put_full k v i vac.inside (λ j _. miss j) (λ q _. empty_misses (slot_at ss i) q vac.bare) in
+        let p = put_full k v i lt (λ j _. miss j) (λ q _. empty_misses (slot_at ss i) q vac.bare) in
         record {
           sound = record {
             distinct = p.distinct;

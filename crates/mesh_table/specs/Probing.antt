@@ -6,6 +6,7 @@
 --     Reached n ss       no empty slot stands between a record and its home
 use Rattle.std.specs.Prelude.{◌≡◌, ℕ, ◌+◌, ◌-◌, ◌*◌, ◌/◌, ◌^◌, ◌<◌, true, cond, List, [], ◌∷◌, is_some, Some, None, Option, ◌≢◌, ◌⊎◌, nat_lt, slice_index_or}
 use Rattle.mesh_table.specs.declared.key.Key.{Key}
+use Rattle.mesh_table.specs.declared.number.SlotNumber.{SlotNumber}
 use Rattle.mesh_table.specs.declared.ring.Record.{Record}
 use Rattle.mesh_table.specs.declared.ring.Probe.{Probe}
 use Rattle.mesh_table.specs.declared.ring.Probe.TheVariants.{Found, Vacant, Exhausted}
@@ -91,7 +92,6 @@ Passed n ss k d = (e : ℕ) → e < d → Foreign (slot_at ss (slot_ahead n (hom
 
 -- Slot i is the first empty one that a search for k comes to.
 pub record Vacancy {V : Type 0} (n : ℕ) (ss : List (Slot V)) (k : Key) (i : ℕ) : Type 0 where
-  pub inside : i < n
   pub bare : slot_at ss i ≡ Empty
   pub steps : ℕ
   pub within : steps < n
@@ -99,9 +99,9 @@ pub record Vacancy {V : Type 0} (n : ℕ) (ss : List (Slot V)) (k : Key) (i : �
   pub passed : Passed n ss k steps
 
 -- How a search for k among n slots ends.
-abbrev pub Probed : {V : Type 0} → ℕ → List (Slot V) → Key → Probe → Type 0
-Probed n ss k (Found i) = (i < n) × Has (slot_at ss i) k
-Probed n ss k (Vacant i) = Vacancy n ss k i
+abbrev pub Probed : {V : Type 0} → (n : ℕ) → List (Slot V) → Key → Probe n → Type 0
+Probed n ss k (Found i) = Has (slot_at ss i.number) k
+Probed n ss k (Vacant i) = Vacancy n ss k i.number
 Probed n ss k Exhausted = Passed n ss k n
 
 -- Slots that may be searched.
@@ -125,9 +125,9 @@ pub record CutOff {V : Type 0} (n : ℕ) (ss : List (Slot V)) (hole i : ℕ) : T
   pub before : steps_between n (home_slot n key) hole < steps_between n (home_slot n key) i
 
 -- What the hole cuts off: the record in a slot, or nothing.
-abbrev pub Behind : {V : Type 0} → ℕ → List (Slot V) → ℕ → Option ℕ → Type 0
+abbrev pub Behind : {V : Type 0} → (n : ℕ) → List (Slot V) → ℕ → Option (SlotNumber n) → Type 0
 Behind n ss hole None = Sound n ss
-Behind n ss hole (Some i) = CutOff n ss hole i
+Behind n ss hole (Some i) = CutOff n ss hole i.number
 
 -- The same records, wherever they stand.
 pub record Alike {V : Type 0} (ss ts : List (Slot V)) : Type 0 where
@@ -139,12 +139,19 @@ pub record Becomes {V : Type 0} (ss ts : List (Slot V)) (k : Key) (w : Option V)
   pub here : lookup ts k ≡ w
   pub other : (q : Key) → (q ≢ k) → lookup ts q ≡ lookup ss q
 
+-- The map has k at slot i, or it has not, and slot i is where it may be put.
+abbrev pub FoundAt : {V : Type 0} → List (Slot V) → Key → ℕ → Type 0
+FoundAt ss k i = Has (slot_at ss i) k × (lookup ss k ≡ value_in (slot_at ss i)) × (is_some (lookup ss k) ≡ true)
+
+abbrev pub FreeAt : {V : Type 0} → ℕ → List (Slot V) → Key → ℕ → Type 0
+FreeAt n ss k i = Vacancy n ss k i × (lookup ss k ≡ None)
+
 -- What the end of a search for k says of the map.
-abbrev pub Sought : {V : Type 0} → ℕ → List (Slot V) → Key → Probe → Type 0
-Sought n ss k (Found i) = (i < n) × Has (slot_at ss i) k × (lookup ss k ≡ value_in (slot_at ss i)) × (is_some (lookup ss k) ≡ true)
-Sought n ss k (Vacant i) = Vacancy n ss k i × (lookup ss k ≡ None)
+abbrev pub Sought : {V : Type 0} → (n : ℕ) → List (Slot V) → Key → Probe n → Type 0
+Sought n ss k (Found i) = FoundAt ss k i.number
+Sought n ss k (Vacant i) = FreeAt n ss k i.number
 Sought n ss k Exhausted = (lookup ss k ≡ None) × (size ss ≡ n)
 
 -- A search for k ends at slot i.
 abbrev pub EndsAt : {V : Type 0} → ℕ → List (Slot V) → Key → ℕ → Type 0
-EndsAt n ss k i = Sought n ss k (Found i) ⊎ Sought n ss k (Vacant i)
+EndsAt n ss k i = FoundAt ss k i ⊎ FreeAt n ss k i

@@ -2,6 +2,7 @@
 #![tactic(auto)]
 
 pub mod key;
+mod number;
 mod ring;
 mod slots;
 pub mod table;

@@ -2,6 +2,7 @@ ghost use Rattle.std.specs.Prelude.{◌≡◌, ◌+◌, ◌^◌, ◌<◌, is_som
 ghost use Rattle.mesh_table.specs.Probing.{slot_at, lookup, size, value_in, Sought, EndsAt, Sound, Becomes};
 
 use crate::key::Key;
+use crate::number::SlotNumber;
 use crate::ring::{Probe, Record, Ring};
 
 mod lowest;
@@ -15,8 +16,8 @@ pub(crate) struct Slots<V, const N: usize> {
 
 impl<V: Copy, const N: usize> Slots<V, N> {
     pub(crate) fn empty() -> Slots<V, N>
-        requires some { 0 < N }
-        requires few { N < 2 ^ 32 }
+        requires has_slots { 0 < N }
+        requires few_slots { N < 2 ^ 32 }
         ensures counted { size result.ring.array ≡ 0 }
         ensures bare { (q : Key) → lookup result.ring.array q ≡ None }
     {
@@ -26,23 +27,22 @@ impl<V: Copy, const N: usize> Slots<V, N> {
     }
 
     // A search: where it does not find the key, no slot has it.
-    pub(crate) fn seek(&self, key: Key) -> Probe
+    pub(crate) fn seek(&self, key: Key) -> Probe<N>
         ensures { Sought N self.now.ring.array key result }
     {
         self.ring.probe(key)
     }
 
     // The value in a slot, if it has one.
-    pub(crate) fn value(&self, i: usize) -> Option<V>
-        requires { i < N }
-        ensures { result ≡ value_in (slot_at self.now.ring.array i) }
+    pub(crate) fn value(&self, i: SlotNumber<N>) -> Option<V>
+        ensures { result ≡ value_in (slot_at self.now.ring.array i.entry.number) }
     {
         Some(self.ring.slot(i)?.value)
     }
 
     // Puts a value at a key, into the slot that a search for the key came to.
-    pub(crate) fn set(&mut self, i: usize, key: Key, value: V)
-        requires { EndsAt N self.old.ring.array key i }
+    pub(crate) fn set(&mut self, i: SlotNumber<N>, key: Key, value: V)
+        requires { EndsAt N self.old.ring.array key i.number }
         ensures becomes { Becomes self.old.ring.array self.new.ring.array key (Some value) }
         ensures counted { size self.new.ring.array + (if is_some (lookup self.old.ring.array key) then 1 else 0) ≡ size self.old.ring.array + 1 }
     {

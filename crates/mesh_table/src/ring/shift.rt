@@ -1,26 +1,26 @@
-ghost use Rattle.std.specs.Prelude.{◌≡◌, ◌<◌, nat_lt};
+ghost use Rattle.std.specs.Prelude.{◌≡◌, nat_lt};
 ghost use Rattle.mesh_table.specs.Probing.{home_slot, steps_between, Sound, Holed, Alike, Behind};
 
 use crate::key::Key;
+use crate::number::SlotNumber;
 use crate::ring::Ring;
 
 impl<V: Copy, const N: usize> Ring<V, N> {
     // Whether the hole comes before slot i on the way from the key's home.
-    fn comes_before(&self, key: Key, hole: usize, i: usize) -> bool
-        requires { (hole < N) × (i < N) }
-        ensures { result ≡ nat_lt (steps_between N (home_slot N key) hole) (steps_between N (home_slot N key) i) }
+    fn comes_before(&self, key: Key, hole: SlotNumber<N>, i: SlotNumber<N>) -> bool
+        ensures { result ≡ nat_lt (steps_between N (home_slot N key) hole.entry.number) (steps_between N (home_slot N key) i.entry.number) }
     {
         let home = self.home(key);
-        self.steps_between(home, hole) < self.steps_between(home, i)
+        home.steps_to(hole) < home.steps_to(i)
     }
 
     // The first slot behind the hole whose record the hole cuts off from its home, if there is one.
-    fn cut_off(&self, hole: usize) -> Option<usize>
-        requires { Holed N self.now.array hole }
-        ensures { Behind N self.now.array hole result }
+    fn cut_off(&self, hole: SlotNumber<N>) -> Option<SlotNumber<N>>
+        requires { Holed N self.now.array hole.number }
+        ensures { Behind N self.now.array hole.entry.number result }
     {
         for distance in 1..N {
-            let i = self.ahead(hole, distance);
+            let i = hole.ahead(distance);
             let record = self.slot(i)?;
             if self.comes_before(record.key, hole, i) {
                 return Some(i);
@@ -31,8 +31,8 @@ impl<V: Copy, const N: usize> Ring<V, N> {
 
     // Moves each record that the hole cuts off into the hole; the slot that it leaves is the next hole. The last hole cuts off
     // nothing.
-    pub(crate) fn close_up(&mut self, from: usize)
-        requires { Holed N self.old.array from }
+    pub(crate) fn close_up(&mut self, from: SlotNumber<N>)
+        requires { Holed N self.old.array from.number }
         ensures sound { Sound N self.new.array }
         ensures alike { Alike self.old.array self.new.array }
     {

@@ -9,6 +9,6 @@ pub returns-in-Some : goal.returns-in-Some
 returns-in-Some g c =
     let s = c.args.self.now in
     let r = c.in-Some.record in
-    let here = get_or_default s.array c.ahead-i.result Empty c.index-self-i.result (omega (arith, c.ahead-i.ensures.inside, s.long)) ∙ c.in-Some.is in
+    let here = get_or_default s.array c.ahead-i.result.number Empty c.index-self-i.result (omega (arith, c.ahead-i.result.inside, s.long)) ∙ c.in-Some.is in
     let same : r.key ≡ c.args.key = same_key_true r.key c.args.key (sym c.eq.ensures ∙ c.if-eq.true) in
-    (c.ahead-i.ensures.inside, (r.value, here ∙ ap (λ (x : Key). Full x r.value) same))
+    (r.value, here ∙ ap (λ (x : Key). Full x r.value) same)

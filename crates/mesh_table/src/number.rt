@@ -1,0 +1,35 @@
+ghost use Rattle.std.specs.Prelude.{◌≡◌, ◌^◌, ◌<◌, ◌≤◌};
+
+// The number of a slot, of N slots round a ring.
+#[derive(Clone, Copy)]
+pub(crate) struct SlotNumber<const N: usize> {
+    pub(crate) number: usize,
+    ghost inside: { number < N },
+    ghost few: { N < 2 ^ 32 },
+}
+
+impl<const N: usize> SlotNumber<N> {
+    ghost use Rattle.mesh_table.specs.Probing.{slot_ahead, steps_between};
+
+    // The slot so many steps on.
+    pub(crate) fn ahead(self, steps: usize) -> SlotNumber<N>
+        requires { steps ≤ N }
+        ensures { result.number ≡ slot_ahead N self.entry.number steps }
+    {
+        let number = self.number + steps;
+        SlotNumber {
+            number: if number < N { number } else { number - N },
+        }
+    }
+
+    // How many steps on from here the other slot is.
+    pub(crate) fn steps_to(self, other: SlotNumber<N>) -> usize
+        ensures { result ≡ steps_between N self.entry.number other.entry.number }
+    {
+        if other.number < self.number {
+            other.number + N - self.number
+        } else {
+            other.number - self.number
+        }
+    }
+}
