@@ -1,5 +1,5 @@
 -- A line that was read and dropped.
-use Rattle.std.proofs.Common.{◌≡◌, ℕ, suc, ◌+◌, ◌-◌, ◌≤◌, Bool, true, false, List, length, take, drop, sym, refl, ap, ◌∙◌, add-one, arith, length-drop}
+use Rattle.std.proofs.Common.{◌≡◌, ℕ, suc, ◌+◌, ◌-◌, ◌≤◌, Bool, true, false, List, length, take, drop, Some, None, Ok, sym, refl, ap, ◌∙◌, add-one, arith, length-drop}
 use Rattle.std.proofs.lemmas.List.{drop-drop, drop-take, length-take}
 use Rattle.mesh_stream.specs.declared.event.Point.{Point}
 use Rattle.mesh_stream.specs.declared.event.Event.{Event}
@@ -7,11 +7,9 @@ use Rattle.mesh_stream.specs.declared.event.Event.TheVariants.{Vertex, Triangle,
 use Rattle.mesh_stream.specs.declared.stage.Answer.TheVariants.{Item}
 use Rattle.mesh_stream.specs.Meaning.{Mark, prepend}
 use Rattle.mesh_stream.specs.Calls.{SameKind}
-use Rattle.mesh_reader.specs.declared.content.LineContent.{LineContent}
-use Rattle.mesh_reader.specs.declared.content.LineContent.TheVariants.{Nothing, Gives}
 use Rattle.mesh_reader.specs.declared.reader.TextReader.{TextReader}
-use Rattle.mesh_reader.specs.declared.scan.Scanned.{Scanned}
-use Rattle.mesh_reader.specs.Reading.{in_time, vertex_after, and_on, after_line, unread}
+use Rattle.mesh_reader.specs.declared.content.Line.{Line}
+use Rattle.mesh_reader.specs.Reading.{LineContent, in_time, vertex_after, and_on, after_line, unread}
 use Rattle.mesh_reader.specs.Keeping.{keeping, keeping_port, mark_at, FrontLine}
 use Rattle.mesh_reader.specs.Readers.{kept, reader_means, reader_port, leaves, Dropped, Answered}
 
@@ -33,9 +31,9 @@ drop_part bs from to n h =
     let e : to - from ≡ n + m = omega arith in
     ap (take m) (sym (drop-drop n from bs)) ∙ sym (drop-take n m (drop from bs)) ∙ ap (λ (k : ℕ). drop n (take k (drop from bs))) (sym e)
 
-module _ (r s : TextReader) (line : Scanned LineContent) (moved : Moved r s line.at) (front : FrontLine r.closed r.line r.vertex (kept r) line) where
+module _ (r s : TextReader) (line : Line) (moved : Moved r s line.length) (front : FrontLine r.closed r.line r.vertex (kept r) line) where
   abbrev rest : List ℕ
-  rest = drop line.at (kept r)
+  rest = drop line.length (kept r)
 
   pub kept_moved : kept s ≡ rest
   kept_moved =
@@ -44,7 +42,7 @@ module _ (r s : TextReader) (line : Scanned LineContent) (moved : Moved r s line
       ap (λ (bs : List ℕ). take (s.end - s.start) (drop s.start bs)) moved.bytes
       ∙ ap (λ (k : ℕ). take (k - s.start) (drop s.start r.bytes)) moved.end
       ∙ ap (λ (k : ℕ). take (r.end - k) (drop k r.bytes)) moved.start
-      ∙ drop_part r.bytes r.start r.end line.at (omega arith)
+      ∙ drop_part r.bytes r.start r.end line.length (omega arith)
 
   line_moved : s.line ≡ suc r.line
   line_moved = moved.line ∙ add-one r.line
@@ -66,26 +64,26 @@ module _ (r s : TextReader) (line : Scanned LineContent) (moved : Moved r s line
       ∙ ap (λ (k : ℕ). unread (mark_at r.closed) (suc r.line) k (kept s)) e
       ∙ ap (unread (mark_at r.closed) (suc r.line) r.vertex) kept_moved
 
-  left : (content : LineContent) → in_time r.line line.found ≡ content → leaves r ≡ after_line content (kept r) rest (unread (mark_at r.closed) (suc r.line) r.vertex rest)
+  left : (content : LineContent) → in_time r.line line.content ≡ content → leaves r ≡ after_line content (kept r) rest (unread (mark_at r.closed) (suc r.line) r.vertex rest)
   left content e =
       front.leaves ∙ ap (λ (g : LineContent). after_line g (kept r) rest (unread (mark_at r.closed) (suc r.line) r.vertex rest)) e
 
-  reads : (content : LineContent) → in_time r.line line.found ≡ content → (t : List ℕ) (m : Mark) → reader_means r t m ≡ and_on r.line r.vertex content (λ next. keeping r.closed (suc r.line) next rest t m)
+  reads : (content : LineContent) → in_time r.line line.content ≡ content → (t : List ℕ) (m : Mark) → reader_means r t m ≡ and_on r.line r.vertex content (λ next. keeping r.closed (suc r.line) next rest t m)
   reads content e t m =
       front.reads t m ∙ ap (λ (g : LineContent). and_on r.line r.vertex g (λ next. keeping r.closed (suc r.line) next rest t m)) e
 
-  pub dropped : in_time r.line line.found ≡ Nothing → s.vertex ≡ r.vertex → Dropped r s
+  pub dropped : in_time r.line line.content ≡ Ok None → s.vertex ≡ r.vertex → Dropped r s
   dropped e v = record {
-    same = λ t m. means_moved r.vertex v t m ∙ sym (reads Nothing e t m);
+    same = λ t m. means_moved r.vertex v t m ∙ sym (reads (Ok None) e t m);
     port_kept = port_moved;
-    left = leaves_moved v ∙ sym (left Nothing e);
-    shorter = let k = ap length kept_moved in let d = length-drop line.at (kept r) in let a = front.some in let b = front.inside in omega arith;
+    left = leaves_moved v ∙ sym (left (Ok None) e);
+    shorter = let k = ap length kept_moved in let d = length-drop line.length (kept r) in let a = front.some in let b = front.inside in omega arith;
   }
 
-  pub handed_over : (e : Event) → in_time r.line line.found ≡ Gives e → s.vertex ≡ vertex_after r.vertex e → Answered r (Item e) s
+  pub handed_over : (e : Event) → in_time r.line line.content ≡ Ok (Some e) → s.vertex ≡ vertex_after r.vertex e → Answered r (Item e) s
   handed_over e g v = record {
-    by_rule = record { first = λ t m. reads (Gives e) g t m ∙ ap (prepend e) (sym (means_moved (vertex_after r.vertex e) v t m)); port_kept = port_moved };
-    left = kept_moved ∙ sym (left (Gives e) g);
+    by_rule = record { first = λ t m. reads (Ok (Some e)) g t m ∙ ap (prepend e) (sym (means_moved (vertex_after r.vertex e) v t m)); port_kept = port_moved };
+    left = kept_moved ∙ sym (left (Ok (Some e)) g);
   }
 
 -- Only vertices are counted.

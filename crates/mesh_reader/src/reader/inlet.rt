@@ -3,7 +3,6 @@ ghost use Rattle.mesh_reader.specs.Readers.{kept, leaves, reader_means, reader_p
 ghost use Rattle.mesh_stream.specs.Calls.{Nexted, Fed, Closed};
 
 use super::{CAPACITY, TextReader};
-use crate::content::LineContent;
 use crate::line::{front_line, in_time};
 use mesh_stream::event::Event;
 use mesh_stream::fault::{Fault, LayerName, Refusal};
@@ -26,8 +25,8 @@ impl TextReader {
                 Standing::Waiting
             }));
         };
-        match in_time(self.line, line.found) {
-            LineContent::Wrong(cause) => {
+        match in_time(self.line, line.content) {
+            Err(cause) => {
                 let fault = Fault {
                     layer: LayerName::Reader,
                     cause,
@@ -35,13 +34,13 @@ impl TextReader {
                 };
                 Some(Answer::Idle(Standing::Faulty(fault)))
             }
-            LineContent::Nothing => {
-                self.start += line.at;
+            Ok(None) => {
+                self.start += line.length;
                 self.line += 1;
                 None
             }
-            LineContent::Gives(event) => {
-                self.start += line.at;
+            Ok(Some(event)) => {
+                self.start += line.length;
                 self.line += 1;
                 if let Event::Vertex { .. } = event {
                     self.vertex += 1;
