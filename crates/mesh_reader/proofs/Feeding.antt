@@ -6,6 +6,7 @@ use Rattle.std.proofs.lemmas.List.{length-take, take_at}
 use Rattle.std.proofs.lemmas.Slice.{take-put_mid}
 use Rattle.mesh_stream.specs.Meaning.{room, Open}
 use Rattle.mesh_stream.specs.Calls.{Takes}
+use Rattle.mesh_reader.specs.declared.numbers.Numbers.{Numbers}
 use Rattle.mesh_reader.specs.declared.reader.TextReader.{TextReader}
 use Rattle.mesh_reader.specs.Reading.{reading_from}
 use Rattle.mesh_reader.specs.Keeping.{keeping, keeping_port}
@@ -38,17 +39,16 @@ opened b xs e = subst (λ c. Open (keeping_port c xs)) (sym e) tt
 
 -- m differs from the reader r in where its bytes stand; xs is what is kept in the end.
 pub fed : (r m : TextReader) (piece xs : List ℕ) (k : ℕ) → r.closed ≡ false → SameBut r m → xs ≡ kept r ++ take k piece → k ≡ min (length piece) (4096 - length (kept r))
-    → Takes (reader_port r) (reader_means r) piece k (keeping_port m.closed xs) (keeping m.closed m.line m.vertex xs)
+    → Takes (reader_port r) (reader_means r) piece k (keeping_port m.closed xs) (keeping m.closed m.next.line m.next.vertex xs)
 fed r m piece xs k o same more c = record {
   was_open = opened r.closed (kept r) o;
   count = c ∙ sym (ap (λ b. min (length piece) (room (keeping_port b (kept r)))) o);
   behind = λ t u.
-      ap (λ b. keeping b m.line m.vertex xs t u) (same.closed ∙ o)
-      ∙ ap (λ (n : ℕ). reading_from n m.vertex (xs ++ t) u) same.line
-      ∙ ap (λ (n : ℕ). reading_from r.line n (xs ++ t) u) same.vertex
-      ∙ ap (λ (ys : List ℕ). reading_from r.line r.vertex (ys ++ t) u) more
-      ∙ ap (λ (ys : List ℕ). reading_from r.line r.vertex ys u) (append_assoc (kept r) (take k piece) t)
-      ∙ sym (ap (λ b. keeping b r.line r.vertex (kept r) (take k piece ++ t) u) o);
+      ap (λ b. keeping b m.next.line m.next.vertex xs t u) (same.closed ∙ o)
+      ∙ ap (λ (n : Numbers). reading_from n.line n.vertex (xs ++ t) u) same.next
+      ∙ ap (λ (ys : List ℕ). reading_from r.next.line r.next.vertex (ys ++ t) u) more
+      ∙ ap (λ (ys : List ℕ). reading_from r.next.line r.next.vertex ys u) (append_assoc (kept r) (take k piece) t)
+      ∙ sym (ap (λ b. keeping b r.next.line r.next.vertex (kept r) (take k piece ++ t) u) o);
   stays_open = opened m.closed xs (same.closed ∙ o);
 }
 

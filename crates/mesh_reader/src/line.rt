@@ -8,6 +8,7 @@ ghost use Rattle.mesh_reader.specs.Keeping.{Front};
 ghost use Rattle.mesh_reader.specs.Lines.{Begun};
 
 use super::content::{FirstWord, Line};
+use super::numbers::Numbers;
 use super::numeral::{Numeral, coordinate, vertex_number};
 use super::scan::Rest;
 use mesh_stream::event::{Event, Point};
@@ -18,8 +19,8 @@ const LONG_LINE: usize = 128;
 
 const MOST_LINES: u32 = 1_000_000_000;
 
-fn vertex(place: u32, number: u32, words: Option<[Option<Numeral>; 3]>) -> Result<Event, Cause>
-    ensures { result ≡ of_three coordinate_of (vertex_event place number) words }
+fn vertex(next: Numbers, words: Option<[Option<Numeral>; 3]>) -> Result<Event, Cause>
+    ensures { result ≡ of_three coordinate_of (vertex_event next.line next.vertex) words }
 {
     let [x, y, z] = words.ok_or(Cause::WordCount)?;
     let at = Point {
@@ -27,7 +28,11 @@ fn vertex(place: u32, number: u32, words: Option<[Option<Numeral>; 3]>) -> Resul
         y: coordinate(y)?,
         z: coordinate(z)?,
     };
-    Ok(Event::Vertex { place, number, at })
+    Ok(Event::Vertex {
+        place: next.line,
+        number: next.vertex,
+        at,
+    })
 }
 
 fn triangle(place: u32, words: Option<[Option<Numeral>; 3]>) -> Result<Event, Cause>
@@ -68,38 +73,38 @@ impl Rest<'_> {
     }
 
     // What the letter in front makes of the rest of the line.
-    fn behind_letter(&mut self, letter: char, place: u32, number: u32) -> Result<Event, Cause>
+    fn behind_letter(&mut self, letter: char, next: Numbers) -> Result<Event, Cause>
         ensures same { SameLine self.old.bytes.now self.new.bytes.now }
-        ensures event { result ≡ by_letter place number letter (rest_numerals self.old.bytes.now) }
+        ensures event { result ≡ by_letter next.line next.vertex letter (rest_numerals self.old.bytes.now) }
     {
         match letter {
-            'v' => vertex(place, number, self.exactly()),
-            'f' => triangle(place, self.exactly()),
-            'x' => finalization(place, self.exactly()),
+            'v' => vertex(next, self.exactly()),
+            'f' => triangle(next.line, self.exactly()),
+            'x' => finalization(next.line, self.exactly()),
             _ => Err(Cause::UnknownWord),
         }
     }
 
     // What the line holds.
-    fn content(&mut self, place: u32, number: u32) -> Result<Option<Event>, Cause>
+    fn content(&mut self, next: Numbers) -> Result<Option<Event>, Cause>
         ensures same { SameLine self.old.bytes.now self.new.bytes.now }
-        ensures content { result ≡ by_words place number (rest_words self.old.bytes.now) }
+        ensures content { result ≡ by_words next.line next.vertex (rest_words self.old.bytes.now) }
     {
         match self.first_word() {
             FirstWord::Missing | FirstWord::Comment => Ok(None),
-            FirstWord::Letter(letter) => self.behind_letter(letter, place, number).map(Some),
+            FirstWord::Letter(letter) => self.behind_letter(letter, next).map(Some),
             FirstWord::Other => Err(Cause::UnknownWord),
         }
     }
 }
 
 // What the line at the front of the bytes holds, and how long it is without its line end.
-fn read_line(bytes: &[u8], place: u32, number: u32) -> Line
-    ensures content { result.content ≡ by_words place number (words (front line_end bytes.now)) }
+fn read_line(bytes: &[u8], next: Numbers) -> Line
+    ensures content { result.content ≡ by_words next.line next.vertex (words (front line_end bytes.now)) }
     ensures length { result.length ≡ length (front line_end bytes.now) }
 {
     let mut rest = Rest { bytes };
-    let content = rest.content(place, number);
+    let content = rest.content(next);
     rest.skip_line();
     Line {
         content,
@@ -128,11 +133,11 @@ fn is_long(length: usize) -> bool
 
 // The line at the front of the bytes kept, unless it is incomplete: what it holds, and how many bytes it takes up. No more
 // bytes are looked at than a line may have, since a longer one is at fault.
-pub(crate) fn front_line(kept: &[u8], closed: bool, place: u32, number: u32) -> Option<Line>
-    ensures { Front closed place number kept.now result }
+pub(crate) fn front_line(kept: &[u8], closed: bool, next: Numbers) -> Option<Line>
+    ensures { Front closed next.line next.vertex kept.now result }
 {
     let length = kept.len().min(LONG_LINE);
-    let line = read_line(&kept[0..length], place, number);
+    let line = read_line(&kept[0..length], next);
     if line.length < length {
         return Some(Line {
             content: line.content,

@@ -13,39 +13,27 @@ impl TextReader {
     fn take_line(&mut self) -> Option<Answer<Event>>
         ensures { LineTaken self.old result self.new }
     {
-        let Some(line) = front_line(
-            &self.bytes[self.start..self.end],
-            self.closed,
-            self.line,
-            self.vertex,
-        ) else {
+        let Some(line) = front_line(&self.bytes[self.start..self.end], self.closed, self.next)
+        else {
             return Some(Answer::Idle(if self.closed {
                 Standing::Ended
             } else {
                 Standing::Waiting
             }));
         };
-        match in_time(self.line, line.content) {
+        match in_time(self.next.line, line.content) {
             Err(cause) => {
                 let fault = Fault {
                     layer: LayerName::Reader,
                     cause,
-                    place: self.line,
+                    place: self.next.line,
                 };
                 Some(Answer::Idle(Standing::Faulty(fault)))
             }
-            Ok(None) => {
+            Ok(event) => {
                 self.start += line.length;
-                self.line += 1;
-                None
-            }
-            Ok(Some(event)) => {
-                self.start += line.length;
-                self.line += 1;
-                if let Event::Vertex { .. } = event {
-                    self.vertex += 1;
-                }
-                Some(Answer::Item(event))
+                self.next = self.next.behind(event);
+                event.map(Answer::Item)
             }
         }
     }

@@ -9,5 +9,5 @@ returns c =
     record {
       moved = ap (λ (bs : List ℕ). take (n - 0) (drop 0 bs)) c.copy_within.ensures.after ∙ at_front r.bytes r.start n (let s = r.size in let o = r.ordered in let i = r.inside in omega arith);
       start = refl;
-      same = record { line = refl; vertex = refl; closed = refl };
+      same = record { next = refl; closed = refl };
     }

@@ -29,4 +29,4 @@ invariant_of-self c =
     let copied = c.copy_from_slice.ensures.after in
     let size = same_size r m piece ys k e.moved e.start c.share-taken.ensures copied in
     let inside = still_inside r m piece ys k e.moved e.start c.share-taken.ensures copied in
-    record { size = size; ordered = (let o = m.ordered in omega arith); inside = inside; lines = m.lines; vertices = m.vertices }
+    record { size = size; ordered = (let o = m.ordered in omega arith); inside = inside }
