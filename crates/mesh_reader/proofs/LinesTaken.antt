@@ -1,17 +1,15 @@
 -- A line that was read and dropped.
-use Rattle.std.proofs.Common.{◌≡◌, ℕ, suc, ◌+◌, ◌-◌, ◌≤◌, Bool, true, false, List, length, take, drop, Some, None, Ok, Option, sym, subst, ap, ◌∙◌, add-one, arith, length-drop}
-use Rattle.std.specs.Option.{option_map}
+use Rattle.std.proofs.Common.{◌≡◌, ℕ, suc, ◌+◌, ◌-◌, ◌≤◌, Bool, true, false, List, length, take, drop, Some, None, Ok, sym, ap, ◌∙◌, add-one, arith, length-drop}
 use Rattle.std.proofs.lemmas.List.{drop-drop, drop-take, length-take}
 use Rattle.mesh_stream.specs.declared.event.Event.{Event}
-use Rattle.mesh_stream.specs.declared.stage.Answer.{Answer}
 use Rattle.mesh_stream.specs.declared.stage.Answer.TheVariants.{Item}
 use Rattle.mesh_stream.specs.Meaning.{Mark, prepend}
 use Rattle.mesh_stream.specs.Calls.{SameKind}
 use Rattle.mesh_reader.specs.declared.reader.TextReader.{TextReader}
 use Rattle.mesh_reader.specs.declared.content.Line.{Line}
-use Rattle.mesh_reader.specs.Reading.{LineContent, in_time, vertex_after, vertex_behind, and_on, after_line, unread}
+use Rattle.mesh_reader.specs.Reading.{LineContent, in_time, vertex_after, and_on, after_line, unread}
 use Rattle.mesh_reader.specs.Keeping.{keeping, keeping_port, mark_at, FrontLine}
-use Rattle.mesh_reader.specs.Readers.{kept, reader_means, reader_port, leaves, Dropped, Answered, LineTaken}
+use Rattle.mesh_reader.specs.Readers.{kept, reader_means, reader_port, leaves, Dropped, Answered}
 
 -- The reader moved on by a line of n bytes.
 pub record Moved (r s : TextReader) (n : ℕ) : Type 0 where
@@ -72,7 +70,7 @@ module _ (r s : TextReader) (line : Line) (moved : Moved r s line.length) (front
   reads content e t m =
       front.reads t m ∙ ap (λ (g : LineContent). and_on r.next.line r.next.vertex g (λ next. keeping r.closed (suc r.next.line) next rest t m)) e
 
-  dropped : in_time r.next.line line.content ≡ Ok None → s.next.vertex ≡ r.next.vertex → Dropped r s
+  pub dropped : in_time r.next.line line.content ≡ Ok None → s.next.vertex ≡ r.next.vertex → Dropped r s
   dropped e v = record {
     same = λ t m. means_moved r.next.vertex v t m ∙ sym (reads (Ok None) e t m);
     port_kept = port_moved;
@@ -80,12 +78,8 @@ module _ (r s : TextReader) (line : Line) (moved : Moved r s line.length) (front
     shorter = let k = ap length kept_moved in let d = length-drop line.length (kept r) in let a = front.some in let b = front.inside in omega arith;
   }
 
-  handed_over : (e : Event) → in_time r.next.line line.content ≡ Ok (Some e) → s.next.vertex ≡ vertex_after r.next.vertex e → Answered r (Item e) s
+  pub handed_over : (e : Event) → in_time r.next.line line.content ≡ Ok (Some e) → s.next.vertex ≡ vertex_after r.next.vertex e → Answered r (Item e) s
   handed_over e g v = record {
     by_rule = record { first = λ t m. reads (Ok (Some e)) g t m ∙ ap (prepend e) (sym (means_moved (vertex_after r.next.vertex e) v t m)); port_kept = port_moved };
     left = kept_moved ∙ sym (left (Ok (Some e)) g);
   }
-
-  pub taken : (event : Option Event) (a : Option (Answer Event)) → a ≡ option_map Item event → in_time r.next.line line.content ≡ Ok event → s.next.vertex ≡ vertex_behind r.next.vertex event → LineTaken r a s
-  taken None a q e v = subst (λ (b : Option (Answer Event)). LineTaken r b s) (sym q) (dropped e v)
-  taken (Some x) a q e v = subst (λ (b : Option (Answer Event)). LineTaken r b s) (sym q) (handed_over x e v)

@@ -88,10 +88,6 @@ vertex_after vertex (Vertex p n at) = suc vertex
 vertex_after vertex (Triangle p a b c) = vertex
 vertex_after vertex (Finalization p i) = vertex
 
-abbrev pub vertex_behind : ℕ → Option Event → ℕ
-vertex_behind vertex None = vertex
-vertex_behind vertex (Some e) = vertex_after vertex e
-
 abbrev pub fault : Cause → ℕ → Standing
 fault c place = Faulty (record { layer = Reader; cause = c; place = place })
 

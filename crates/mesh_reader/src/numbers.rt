@@ -1,5 +1,5 @@
 ghost use Rattle.std.specs.Prelude.{◌≡◌, ◌+◌, ◌≤◌};
-ghost use Rattle.mesh_reader.specs.Reading.{vertex_behind};
+ghost use Rattle.mesh_reader.specs.Reading.{vertex_after};
 
 use mesh_stream::event::Event;
 
@@ -13,19 +13,15 @@ pub(crate) struct Numbers {
 }
 
 impl Numbers {
-    // Behind a line that holds this.
-    pub(crate) fn behind(self, event: Option<Event>) -> Numbers
-        requires { self.line ≤ 1000000000 }
-        ensures line { result.line ≡ self.line + 1 }
-        ensures vertex { result.vertex ≡ vertex_behind self.vertex event }
+    // Past a line that holds this event.
+    pub(crate) fn pass(&mut self, event: &Event)
+        requires { self.old.line ≤ 1000000000 }
+        ensures line { self.new.line ≡ self.old.line + 1 }
+        ensures vertex { self.new.vertex ≡ vertex_after self.old.vertex event.now }
     {
-        let vertex = match event {
-            Some(Event::Vertex { .. }) => self.vertex + 1,
-            _ => self.vertex,
-        };
-        Numbers {
-            line: self.line + 1,
-            vertex,
+        self.line += 1;
+        if let Event::Vertex { .. } = event {
+            self.vertex += 1;
         }
     }
 }

@@ -9,7 +9,7 @@ use crate::numbers::Numbers;
 const CAPACITY: usize = 4096;
 
 // The text reader. It keeps the bytes that it took and has not read yet, `bytes[start..end]`; reading a line moves `start`, and
-// only feeding moves bytes.
+// only feeding moves bytes. An array, since a reader's memory is fixed and lies in no heap.
 #[derive(Drop)]
 pub struct TextReader {
     bytes: [u8; CAPACITY],

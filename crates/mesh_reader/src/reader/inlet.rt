@@ -21,6 +21,7 @@ impl TextReader {
                 Standing::Waiting
             }));
         };
+        // The last two arms are apart, since one arm that maps the event reads a text more slowly.
         match in_time(self.next.line, line.content) {
             Err(cause) => {
                 let fault = Fault {
@@ -30,10 +31,15 @@ impl TextReader {
                 };
                 Some(Answer::Idle(Standing::Faulty(fault)))
             }
-            Ok(event) => {
+            Ok(None) => {
                 self.start += line.length;
-                self.next = self.next.behind(event);
-                event.map(Answer::Item)
+                self.next.line += 1;
+                None
+            }
+            Ok(Some(event)) => {
+                self.start += line.length;
+                self.next.pass(&event);
+                Some(Answer::Item(event))
             }
         }
     }
