@@ -1,13 +1,13 @@
 -- The words of a line, as it is gone through from left to right.
-use Rattle.std.proofs.Common.{◌≡◌, ℕ, suc, ◌+◌, ◌<◌, ◌≤◌, Bool, true, false, cond, ◌||◌, not, ◌⊎◌, List, [], ◌∷◌, ◌++◌, length, take, map, filter, Some, None, Option, sym, refl, ap, ◌∙◌, inl, inr, arith, append-nil, append_assoc, length-append}
+use Rattle.std.proofs.Common.{◌≡◌, ℕ, suc, ◌+◌, ◌<◌, ◌≤◌, Bool, true, false, cond, ◌||◌, ◌==◌, not, is_some, ◌⊎◌, List, [], ◌∷◌, ◌++◌, length, take, map, filter, Some, None, Option, sym, refl, ap, ◌∙◌, inl, inr, arith, append-nil, append_assoc, length-append}
 use Rattle.std.proofs.Math.ListN.{set}
 use Rattle.std.proofs.lemmas.List.{take_all, take_more_set}
-use Rattle.std.proofs.lemmas.Bool.{eqb-true, eq-eqb, ne_eqb, both_ways, or_cases, or_parts}
+use Rattle.std.proofs.lemmas.Bool.{not-false, eqb-true, eq-eqb, ne_eqb, both_ways, or_cases, or_parts}
 use Rattle.mesh_reader.specs.declared.numeral.Numeral.{Numeral}
 use Rattle.mesh_reader.specs.Text.{onto_first, split, pieces, some_bytes, blank, words, line_end}
 use Rattle.mesh_reader.specs.Numerals.{numeral}
 use Rattle.mesh_reader.specs.Reading.{exactly}
-use Rattle.mesh_reader.specs.Scanning.{separates, front, behind, at_word_end, rest_words, rest_numerals, SameLine}
+use Rattle.mesh_reader.specs.Scanning.{separates, front, behind, begins, at_word_end, rest_words, rest_numerals, SameLine, NextIf, NextMinus}
 
 -- A line end is no blank.
 pub end_not_blank : (b : ℕ) → line_end b ≡ true → blank b ≡ false
@@ -30,6 +30,15 @@ behind_on b bs e = ap (λ t. cond t (b ∷ bs) (behind separates bs)) e
 pub front_end : (bs : List ℕ) → at_word_end bs ≡ true → front separates bs ≡ []
 front_end [] e = refl
 front_end (b ∷ bs) e = ap (λ t. cond t [] (b ∷ front separates bs)) e
+
+-- Where no byte of a word is next, it has ended.
+pub word_ends : (bs : List ℕ) → begins (λ b. not (separates b)) bs ≡ false → at_word_end bs ≡ true
+word_ends [] e = refl
+word_ends (b ∷ bs) e = not-false (separates b) e
+
+pub minus_next : (old new : List ℕ) (b : Option ℕ) → NextIf (λ b. b == 45) old b new → NextMinus old (is_some b) new
+minus_next old new None e = e
+minus_next old new (Some b) e = e.1 ∙ ap (λ (k : ℕ). k ∷ new) (eqb-true b 45 e.0)
 
 pub behind_end : (bs : List ℕ) → at_word_end bs ≡ true → behind separates bs ≡ bs
 behind_end [] e = refl

@@ -25,10 +25,6 @@ abbrev pub at_word_end : List ℕ → Bool
 at_word_end [] = true
 at_word_end (b ∷ bs) = separates b
 
-abbrev pub at_digit : List ℕ → Bool
-at_digit [] = false
-at_digit (b ∷ bs) = digit b
-
 -- the words that are left of the line, and these as numerals
 abbrev pub rest_words : List ℕ → List (List ℕ)
 rest_words bytes = words (front line_end bytes)
@@ -40,17 +36,17 @@ rest_numerals bytes = map numeral (rest_words bytes)
 abbrev pub SameLine : List ℕ → List ℕ → Type 0
 SameLine old new = behind line_end new ≡ behind line_end old
 
--- the next byte of the word that goes on here
-abbrev pub NextByte : List ℕ → Option ℕ → List ℕ → Type 0
-NextByte old None new = (at_word_end old ≡ true) × (new ≡ old)
-NextByte old (Some b) new = (separates b ≡ false) × (old ≡ b ∷ new)
+-- The next byte is of a kind.
+abbrev pub begins : (ℕ → Bool) → List ℕ → Bool
+begins kind [] = false
+begins kind (b ∷ bs) = kind b
 
--- what the next byte says, if it is a digit
-abbrev pub NextDigit : List ℕ → Option ℕ → List ℕ → Type 0
-NextDigit old None new = (at_digit old ≡ false) × (new ≡ old)
-NextDigit old (Some d) new = (b : ℕ) × (digit b ≡ true) × (d ≡ b - 48) × (old ≡ b ∷ new)
+-- the next byte, if it is of a kind, and what is left then
+abbrev pub NextIf : (ℕ → Bool) → List ℕ → Option ℕ → List ℕ → Type 0
+NextIf kind old None new = (begins kind old ≡ false) × (new ≡ old)
+NextIf kind old (Some b) new = (kind b ≡ true) × (old ≡ b ∷ new)
 
--- whether a minus stands here, which is then passed
+-- whether a minus is next, which is then passed
 abbrev pub NextMinus : List ℕ → Bool → List ℕ → Type 0
 NextMinus old true new = old ≡ 45 ∷ new
 NextMinus old false new = (has_minus old ≡ false) × (new ≡ old)

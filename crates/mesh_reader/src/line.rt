@@ -64,7 +64,7 @@ impl Rest<'_> {
         ensures rest { Begun self.old.bytes.now result self.new.bytes.now }
     {
         self.skip_blanks();
-        match self.next_byte() {
+        match self.next_in_word() {
             None => FirstWord::Missing,
             Some(b'#') => FirstWord::Comment,
             Some(byte) if self.at_word_end() => FirstWord::Letter(char::from(byte)),

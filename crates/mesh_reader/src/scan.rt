@@ -1,8 +1,8 @@
-ghost use Rattle.std.specs.Prelude.{◌≡◌, ◌≤◌, ℕ, Bool, not};
+ghost use Rattle.std.specs.Prelude.{◌≡◌, ◌≤◌, ◌==◌, ℕ, Bool, not};
 ghost use Rattle.mesh_reader.specs.Text.{blank, line_end};
-ghost use Rattle.mesh_reader.specs.Numerals.{magnitude, numeral};
+ghost use Rattle.mesh_reader.specs.Numerals.{digit, magnitude, numeral};
 ghost use Rattle.mesh_reader.specs.Reading.{exactly};
-ghost use Rattle.mesh_reader.specs.Scanning.{separates, front, behind, at_word_end, rest_numerals, SameLine, IsTest, NextByte, NextDigit, NextMinus, Next, leading};
+ghost use Rattle.mesh_reader.specs.Scanning.{separates, front, behind, at_word_end, rest_numerals, SameLine, IsTest, NextIf, NextMinus, Next, leading};
 
 use super::numeral::Numeral;
 
@@ -26,6 +26,12 @@ fn is_line_end(byte: u8) -> bool
     ensures { result ≡ line_end byte }
 {
     byte == b'\n'
+}
+
+fn is_minus(byte: u8) -> bool
+    ensures { result ≡ (byte == 45) }
+{
+    byte == b'-'
 }
 
 fn is_separator(byte: u8) -> bool
@@ -77,12 +83,13 @@ impl<'a> Rest<'a> {
         }
     }
 
-    // The next byte of the word that goes on here.
-    pub(crate) fn next_byte(&mut self) -> Option<u8>
-        ensures { NextByte self.old.bytes.now result self.new.bytes.now }
+    // The next byte, if it is of this kind.
+    fn next_if<F: Fn(u8) -> bool>(&mut self, is_wanted: F) -> Option<u8>
+        requires { F.IsAlwaysCallable is_wanted }
+        ensures { (kind : ℕ → Bool) → IsTest (F.post is_wanted) kind → NextIf kind self.old.bytes.now result self.new.bytes.now }
     {
         match self.bytes {
-            [byte, after @ ..] if !is_separator(*byte) => {
+            [byte, after @ ..] if is_wanted(*byte) => {
                 self.bytes = after;
                 Some(*byte)
             }
@@ -90,16 +97,24 @@ impl<'a> Rest<'a> {
         }
     }
 
-    fn next_digit(&mut self) -> Option<u32>
-        ensures { NextDigit self.old.bytes.now result self.new.bytes.now }
+    // The next byte of the word that goes on here.
+    pub(crate) fn next_in_word(&mut self) -> Option<u8>
+        ensures { NextIf (λ b. not (separates b)) self.old.bytes.now result self.new.bytes.now }
     {
-        match self.bytes {
-            [byte, after @ ..] if byte.is_ascii_digit() => {
-                self.bytes = after;
-                Some(u32::from(*byte - b'0'))
-            }
-            _ => None,
-        }
+        self.next_if(|byte| !is_separator(byte))
+    }
+
+    fn next_digit(&mut self) -> Option<u8>
+        ensures { NextIf digit self.old.bytes.now result self.new.bytes.now }
+    {
+        self.next_if(|byte| byte.is_ascii_digit())
+    }
+
+    // Whether a minus is next, which is then passed.
+    fn next_minus(&mut self) -> bool
+        ensures { NextMinus self.old.bytes.now result self.new.bytes.now }
+    {
+        self.next_if(is_minus).is_some()
     }
 
     // The number that the next digits say, so many of them at the most.
@@ -112,7 +127,7 @@ impl<'a> Rest<'a> {
             let Some(digit) = self.next_digit() else {
                 break;
             };
-            value = 10 * value + digit;
+            value = 10 * value + u32::from(digit - b'0');
         }
         value
     }
@@ -139,24 +154,12 @@ impl<'a> Rest<'a> {
         None
     }
 
-    fn minus(&mut self) -> bool
-        ensures { NextMinus self.old.bytes.now result self.new.bytes.now }
-    {
-        match self.bytes {
-            [b'-', after @ ..] => {
-                self.bytes = after;
-                true
-            }
-            _ => false,
-        }
-    }
-
     // The word that begins here, as a numeral if it is one.
     fn numeral(&mut self) -> Option<Numeral>
         ensures after { self.new.bytes.now ≡ behind separates self.old.bytes.now }
         ensures value { result ≡ numeral (front separates self.old.bytes.now) }
     {
-        let minus = self.minus();
+        let minus = self.next_minus();
         let size = self.magnitude()?;
         Some(Numeral { minus, size })
     }

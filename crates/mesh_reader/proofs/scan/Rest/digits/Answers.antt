@@ -10,16 +10,18 @@ overflow_mul-value c =
 
 pub overflow_add-value : goal.overflow_add-value
 overflow_add-value c =
-    let (b, e, is, old) = c.in-Some.ensures in
-    let to = digit_to b e in
-    Fits-lt {n = 1000000000} (more_fits c.loop.value c.loop.counter c.in-Some.digit c.args.most c.loop.invariant.1 c.loop-test.true c.requires (omega arith)) (Fits-lit tt)
+    let e = c.in-Some.ensures in
+    let to = digit_to c.in-Some.digit e.0 in
+    let is = c.from.ensures in
+    Fits-lt {n = 1000000000} (more_fits c.loop.value c.loop.counter c.from.result c.args.most c.loop.invariant.1 c.loop-test.true c.requires (omega arith)) (Fits-lit tt)
 
 pub loop-preserved : goal.loop-preserved
 loop-preserved c =
-    let (b, e, is, old) = c.in-Some.ensures in
-    let to = digit_to b e in (
-      digit_read c.loop.counter c.args.most c.loop.value c.in-Some.digit b _ _ c.loop-test.true e is old ∙ c.loop.invariant.0,
-      value_more c.loop.value c.loop.counter c.in-Some.digit c.loop.invariant.1 (omega arith),
+    let e = c.in-Some.ensures in
+    let to = digit_to c.in-Some.digit e.0 in
+    let is = c.from.ensures in (
+      digit_read c.loop.counter c.args.most c.loop.value c.from.result c.in-Some.digit _ _ c.loop-test.true e.0 c.from.ensures e.1 ∙ c.loop.invariant.0,
+      value_more c.loop.value c.loop.counter c.from.result c.loop.invariant.1 (omega arith),
     )
 
 pub returns-in_default : goal.returns-in_default
