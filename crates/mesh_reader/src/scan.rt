@@ -182,8 +182,8 @@ impl<'a> Rest<'a> {
         ensures words { result ≡ exactly N (rest_numerals self.old.bytes.now) }
     {
         let mut words = [None; N];
-        for i in 0..N {
-            words[i] = self.next_word()?;
+        for word in &mut words {
+            *word = self.next_word()?;
         }
         match self.next_word() {
             None => Some(words),
