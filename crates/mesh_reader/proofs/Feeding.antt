@@ -1,8 +1,7 @@
 -- The bytes kept, moved to the front and fed.
-use Rattle.std.proofs.Common.{◌≡◌, ℕ, ◌+◌, ◌-◌, ◌≤◌, min, Bool, false, List, ◌++◌, length, take, drop, sym, ap, ◌∙◌, subst, append_assoc, arith, length-append, length-drop}
+use Rattle.std.proofs.Common.{◌≡◌, ℕ, ◌+◌, ◌-◌, ◌≤◌, min, Bool, false, List, ◌++◌, length, take, drop, sym, ap, ◌∙◌, subst, append_assoc, arith}
 use borrow.Rule.Slice.PartMut.{put_mid}
-use lib.Seq.{paste}
-use Rattle.std.proofs.lemmas.List.{length-take, take_at}
+use Rattle.std.proofs.lemmas.List.{length-take}
 use Rattle.std.proofs.lemmas.Slice.{take-put_mid}
 use Rattle.mesh_stream.specs.Meaning.{room, Open}
 use Rattle.mesh_stream.specs.Calls.{Takes}
@@ -11,21 +10,6 @@ use Rattle.mesh_reader.specs.declared.reader.TextReader.{TextReader}
 use Rattle.mesh_reader.specs.Reading.{reading_from}
 use Rattle.mesh_reader.specs.Keeping.{keeping, keeping_port}
 use Rattle.mesh_reader.specs.Readers.{kept, reader_means, reader_port, SameBut}
-
-pub length_kept : (r : TextReader) → length (kept r) ≡ r.end - r.start
-length_kept r =
-    let a = length-take (r.end - r.start) (drop r.start r.bytes) in
-    let b = length-drop r.start r.bytes in
-    let c = r.size in
-    let d = r.inside in
-    omega arith
-
--- n bytes from `start` on, copied to the front
-pub at_front : (bs : List ℕ) (start n : ℕ) → start + n ≤ length bs → take (n - 0) (drop 0 (paste bs 0 (drop start bs) n)) ≡ take n (drop start bs)
-at_front bs start n h =
-    let a = length-take n (drop start bs) in
-    let b = length-drop start bs in
-    ap (λ (k : ℕ). take k (take n (drop start bs) ++ drop (0 + n) bs)) (let e : n - 0 ≡ n = omega arith in e) ∙ take_at (take n (drop start bs)) (drop (0 + n) bs) n (omega arith)
 
 -- k bytes more, written behind the first e
 pub behind_kept : (bs ys : List ℕ) (e k : ℕ) → e ≤ length bs → length ys ≡ k → take (e + k - 0) (drop 0 (put_mid e (e + k - e) bs ys)) ≡ take (e - 0) (drop 0 bs) ++ ys
@@ -71,22 +55,3 @@ module _ (r m : TextReader) (piece ys : List ℕ) (k : ℕ) (moved : kept m ≡ 
   pub more : take (m.end + k - m.start) (drop m.start (put_mid m.end (m.end + k - m.end) m.bytes ys)) ≡ kept r ++ take k piece
   more =
       behind_start m ys k start copied_length ∙ ap (λ (xs : List ℕ). xs ++ ys) moved ∙ ap (λ (xs : List ℕ). kept r ++ xs) copied_whole
-
-  -- The array keeps its size, and what is kept lies within it.
-  pub still_inside : m.end + k ≤ 4096
-  still_inside = let a = length_kept m in let i = m.inside in omega arith
-
-  pub same_size : length (put_mid m.end (m.end + k - m.end) m.bytes ys) ≡ 4096
-  same_size =
-      let e = m.end in
-      let n : ℕ = e + k - e in
-      let bs = m.bytes in
-      let a : length (put_mid e n bs ys) ≡ length (take e bs) + length (ys ++ drop n (drop e bs)) = length-append (take e bs) (ys ++ drop n (drop e bs)) in
-      let b : length (ys ++ drop n (drop e bs)) ≡ length ys + length (drop n (drop e bs)) = length-append ys (drop n (drop e bs)) in
-      let d = length-take e bs in
-      let f = length-drop n (drop e bs) in
-      let g = length-drop e bs in
-      let h = copied_length in
-      let s = m.size in
-      let i = still_inside in
-      omega arith

@@ -10,6 +10,7 @@ use Rattle.mesh_reader.specs.Text.{onto_first, split, pieces, some_bytes, words,
 use Rattle.mesh_reader.specs.Reading.{LineContent, by_words, in_time, line_content, fault, and_on, read_lines, at_end, reading_from, rejoined, after_line, unread_pieces, unread}
 use Rattle.mesh_reader.specs.ReadingLaw.{SomePieces, some_pieces, line_before, first_piece_long, long_cause, long_wrong}
 use Rattle.mesh_reader.specs.Scanning.{front}
+use Rattle.mesh_reader.proofs.Words.{front_length}
 use Rattle.mesh_reader.specs.Keeping.{keeping, mark_at, Front}
 
 -- what follows the first piece
@@ -90,14 +91,6 @@ one_piece (b ∷ bs) h = by (line_end b) refl (one_piece bs)
 
 short_content : (p n : ℕ) (l : List ℕ) → length l < 128 → line_content p n l ≡ in_time p (by_words p n (words l))
 short_content p n l h = ap (λ t. in_time p (cond t (Err LineTooLong) (by_words p n (words l)))) (lt-leb 128 (length l) h)
-
-length_front_le : (stops : ℕ → Bool) (bs : List ℕ) → length (front stops bs) ≤ length bs
-length_front_le stops [] = omega arith
-length_front_le stops (b ∷ bs) = by (stops b) (length_front_le stops bs)
-  where
-    by : (t : Bool) → length (front stops bs) ≤ length bs → length (cond t [] (b ∷ front stops bs)) ≤ suc (length bs)
-    by true h = omega arith
-    by false h = omega arith
 
 late_or_long : (p n : ℕ) (t : Bool) (later : ℕ → Outcome Event) → and_on p n (cond t (Err TooManyLines) (Err LineTooLong)) later ≡ outcome [] (fault (long_cause t) p)
 late_or_long p n true later = refl
@@ -241,7 +234,7 @@ module _ (c : Bool) (p n : ℕ) (kept window : List ℕ) (is : window ≡ take 1
     last_line : c ≡ true → 0 < length window → Front c p n kept (Some (record { content = by_words p n (words line); length = length line }))
     last_line e z = subst (λ d. Front d p n kept (Some (record { content = by_words p n (words line); length = length line }))) (sym e) (record {
       some = omega arith;
-      inside = let l = length_front_le line_end window in let w = length_window in omega arith;
+      inside = let l = front_length line_end window in let w = length_window in omega arith;
       reads = λ t m.
           unfinished closed ∙ ap (λ s. read_lines p n (cond s (kept ∷ []) []) Ended) some_kept
           ∙ ap (λ g. and_on p n g (λ next. outcome [] Ended)) content

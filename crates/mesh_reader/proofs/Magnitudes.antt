@@ -4,7 +4,7 @@ use native.Mathlib.Nat.{pow-succ', pow-le-pow_right}
 use Rattle.std.proofs.lemmas.Bool.{both_ways, leb-true, and_parts, or_from, ne_eqb, le-leb, lt-leb, and_from, and_left, and_right}
 use Rattle.mesh_reader.specs.Text.{some_bytes, blank}
 use Rattle.mesh_reader.specs.Numerals.{digit, all_digits, value, magnitude}
-use Rattle.mesh_reader.specs.Scanning.{separates, front, behind, at_word_end, begins, leading}
+use Rattle.mesh_reader.specs.Scanning.{separates, front, behind, at_word_end, leading}
 use Rattle.mesh_reader.proofs.Words.{front_on, behind_on, front_end, behind_end}
 
 pub digit_from : (b : ℕ) → digit b ≡ true → 48 ≤ b
@@ -31,11 +31,6 @@ digit_read i most v d b at new h e is old =
     let n : ℕ = most - (i + 1) in
     let s : suc n ≡ most - i = omega arith in
     ap (λ (x : ℕ). leading n (10 * v + x) new) is ∙ sym (leading_more n v b new e) ∙ ap (λ (k : ℕ). leading k v (b ∷ new)) s ∙ ap (leading (most - i) v) (sym old)
-
-pub leading_done : (n high : ℕ) (bs : List ℕ) → begins digit bs ≡ false → leading n high bs ≡ (high, bs)
-leading_done zero high bs e = refl
-leading_done (suc n) high [] e = refl
-leading_done (suc n) high (b ∷ bs) e = ap (λ t. cond t (leading n (10 * high + (b - 48)) bs) (high, b ∷ bs)) e
 
 pub digit_in_word : (b : ℕ) → digit b ≡ true → separates b ≡ false
 digit_in_word b e =

@@ -1,6 +1,6 @@
-use Rattle.std.proofs.Common.{◌-◌, sym, ap, ◌∙◌, arith, Fits-lit}
+use Rattle.std.proofs.Common.{◌∙◌, arith, Fits-lit}
 use mir.Facts.{Fits-lt}
-use Rattle.mesh_reader.proofs.Magnitudes.{digit_to, value_more, more_fits, digit_read, leading_done}
+use Rattle.mesh_reader.proofs.Magnitudes.{digit_to, value_more, more_fits, digit_read}
 use Rattle.mesh_reader.proofs.scan.Rest.digits.Goals as goal
 
 pub overflow_mul-value : goal.overflow_mul-value
@@ -23,8 +23,3 @@ loop-preserved c =
       digit_read c.loop.counter c.args.most c.loop.value c.from.result c.in-Some.digit _ _ c.loop-test.true e.0 c.from.ensures e.1 ∙ c.loop.invariant.0,
       value_more c.loop.value c.loop.counter c.from.result c.loop.invariant.1 (omega arith),
     )
-
-pub returns-in_default : goal.returns-in_default
-returns-in_default c =
-    let e = c.in_default.ensures in
-    sym c.loop.invariant.0 ∙ leading_done (c.args.most - c.loop.counter) c.loop.value _ e.0 ∙ ap (λ r. (c.loop.value, r)) (sym e.1)
