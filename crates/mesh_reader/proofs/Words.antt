@@ -7,7 +7,7 @@ use Rattle.mesh_reader.specs.declared.numeral.Numeral.{Numeral}
 use Rattle.mesh_reader.specs.Text.{onto_first, split, pieces, some_bytes, blank, words, line_end}
 use Rattle.mesh_reader.specs.Numerals.{numeral}
 use Rattle.mesh_reader.specs.Reading.{exactly}
-use Rattle.mesh_reader.specs.Scanning.{separates, front, behind, begins, at_word_end, rest_words, rest_numerals, SameLine, NextIf, NextMinus}
+use Rattle.mesh_reader.specs.Scanning.{separates, in_word, front, behind, past_blanks, begins, at_word_end, rest_words, rest_numerals, SameLine, NextIf, NextMinus}
 
 -- A line end is no blank.
 pub end_not_blank : (b : ℕ) → line_end b ≡ true → blank b ≡ false
@@ -32,7 +32,7 @@ front_end [] e = refl
 front_end (b ∷ bs) e = ap (λ t. cond t [] (b ∷ front separates bs)) e
 
 -- Where no byte of a word is next, it has ended.
-pub word_ends : (bs : List ℕ) → begins (λ b. not (separates b)) bs ≡ false → at_word_end bs ≡ true
+pub word_ends : (bs : List ℕ) → begins in_word bs ≡ false → at_word_end bs ≡ true
 word_ends [] e = refl
 word_ends (b ∷ bs) e = not-false (separates b) e
 
@@ -75,9 +75,6 @@ same_word = behind_line separates (λ b e. ap (λ t. blank b || t) e ∙ or_true
 
 pub same_byte : (b : ℕ) (bs : List ℕ) → separates b ≡ false → SameLine (b ∷ bs) bs
 same_byte b bs e = sym (ap (λ t. cond t (b ∷ bs) (behind line_end bs)) (or_parts (blank b) (line_end b) e).1)
-
-abbrev pub past_blanks : List ℕ → List ℕ
-past_blanks = behind (λ b. not (blank b))
 
 pub same_blanks : (bs : List ℕ) → SameLine bs (past_blanks bs)
 same_blanks = behind_line (λ b. not (blank b)) (λ b e. ap not (end_not_blank b e))

@@ -1,11 +1,14 @@
 -- A line as it is gone through from left to right: each list of bytes is what is left of the text from some place of the line on.
-use Rattle.std.specs.Prelude.{◌≡◌, ℕ, zero, suc, ◌+◌, ◌-◌, ◌*◌, Bool, true, false, cond, ◌||◌, List, [], ◌∷◌, map, Some, None, Option}
+use Rattle.std.specs.Prelude.{◌≡◌, ℕ, zero, suc, ◌+◌, ◌-◌, ◌*◌, Bool, true, false, cond, ◌||◌, not, List, [], ◌∷◌, map, Some, None, Option}
 use Rattle.mesh_reader.specs.declared.numeral.Numeral.{Numeral}
 use Rattle.mesh_reader.specs.Text.{blank, line_end, words}
 use Rattle.mesh_reader.specs.Numerals.{digit, has_minus, numeral}
 
 abbrev pub separates : ℕ → Bool
 separates b = blank b || line_end b
+
+abbrev pub in_word : ℕ → Bool
+in_word b = not (separates b)
 
 -- the front of a list up to the first element of a kind, and what is left from there on
 abbrev pub front : (ℕ → Bool) → List ℕ → List ℕ
@@ -15,6 +18,9 @@ front stops (b ∷ bs) = cond (stops b) [] (b ∷ front stops bs)
 abbrev pub behind : (ℕ → Bool) → List ℕ → List ℕ
 behind stops [] = []
 behind stops (b ∷ bs) = cond (stops b) (b ∷ bs) (behind stops bs)
+
+abbrev pub past_blanks : List ℕ → List ℕ
+past_blanks = behind (λ b. not (blank b))
 
 -- each call of a test answers whether the byte is of the kind
 abbrev pub IsTest : (ℕ → Bool → Type 0) → (ℕ → Bool) → Type 0

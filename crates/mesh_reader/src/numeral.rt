@@ -3,7 +3,7 @@ ghost use Rattle.mesh_reader.specs.Numerals.{coordinate_of, vertex_of};
 
 use mesh_stream::fault::Cause;
 
-const LARGEST_COORDINATE: u32 = 100_000;
+const LARGEST_COORDINATE: i32 = 100_000;
 
 const LARGEST_VERTEX: u32 = 100_000_000;
 
@@ -19,10 +19,11 @@ pub(crate) fn coordinate(word: Option<Numeral>) -> Result<i32, Cause>
     ensures { result ≡ coordinate_of word }
 {
     let Numeral { minus, size } = word.ok_or(Cause::NotANumber)?;
+    let size = i32::try_from(size).map_err(|_| Cause::OutOfRange)?;
     if size > LARGEST_COORDINATE {
         return Err(Cause::OutOfRange);
     }
-    Ok(if minus { -(size as i32) } else { size as i32 })
+    Ok(if minus { -size } else { size })
 }
 
 // A word as a vertex number: without sign, from 1 to 100,000,000.

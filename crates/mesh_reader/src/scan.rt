@@ -1,8 +1,8 @@
-ghost use Rattle.std.specs.Prelude.{◌≡◌, ◌≤◌, ◌==◌, ℕ, Bool, not};
+ghost use Rattle.std.specs.Prelude.{◌≡◌, ◌≤◌, ◌==◌, ℕ, Bool};
 ghost use Rattle.mesh_reader.specs.Text.{blank, line_end};
 ghost use Rattle.mesh_reader.specs.Numerals.{digit, magnitude, numeral};
 ghost use Rattle.mesh_reader.specs.Reading.{exactly};
-ghost use Rattle.mesh_reader.specs.Scanning.{separates, front, behind, at_word_end, rest_numerals, SameLine, IsTest, NextIf, NextMinus, Next, leading};
+ghost use Rattle.mesh_reader.specs.Scanning.{separates, in_word, front, behind, past_blanks, at_word_end, rest_numerals, SameLine, IsTest, NextIf, NextMinus, Next, leading};
 
 use super::numeral::Numeral;
 
@@ -54,7 +54,7 @@ impl<'a> Rest<'a> {
     }
 
     pub(crate) fn skip_blanks(&mut self)
-        ensures { self.new.bytes.now ≡ behind (λ b. not (blank b)) self.old.bytes.now }
+        ensures { self.new.bytes.now ≡ past_blanks self.old.bytes.now }
     {
         self.skip_to(|byte| !is_blank(byte));
     }
@@ -99,7 +99,7 @@ impl<'a> Rest<'a> {
 
     // The next byte of the word that goes on here.
     pub(crate) fn next_in_word(&mut self) -> Option<u8>
-        ensures { NextIf (λ b. not (separates b)) self.old.bytes.now result self.new.bytes.now }
+        ensures { NextIf in_word self.old.bytes.now result self.new.bytes.now }
     {
         self.next_if(|byte| !is_separator(byte))
     }
