@@ -40,7 +40,7 @@ fn is_separator(byte: u8) -> bool
     is_blank(byte) || is_line_end(byte)
 }
 
-impl<'a> Rest<'a> {
+impl Rest<'_> {
     // Past all before the next byte of this kind.
     fn skip_to<F: Fn(u8) -> bool>(&mut self, stops: F)
         requires { F.IsAlwaysCallable stops }
