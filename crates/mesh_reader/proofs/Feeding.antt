@@ -1,30 +1,15 @@
 -- The bytes kept, moved to the front and fed.
-use Rattle.std.proofs.Common.{◌≡◌, ℕ, ◌+◌, ◌-◌, ◌≤◌, min, Bool, false, List, ◌++◌, length, take, drop, sym, ap, ◌∙◌, subst, append_assoc, arith, length-append, length-drop}
+use Rattle.std.proofs.Common.{◌≡◌, ℕ, ◌+◌, ◌-◌, ◌≤◌, min, Bool, false, List, ◌++◌, length, take, drop, sym, ap, ◌∙◌, subst, append_assoc, arith}
 use borrow.Rule.Slice.PartMut.{put_mid}
-use lib.Seq.{paste}
-use Rattle.std.proofs.lemmas.List.{length-take, take_at}
+use Rattle.std.proofs.lemmas.List.{length-take}
 use Rattle.std.proofs.lemmas.Slice.{take-put_mid}
 use Rattle.mesh_stream.specs.Meaning.{room, Open}
 use Rattle.mesh_stream.specs.Calls.{Takes}
+use Rattle.mesh_reader.specs.declared.numbers.Numbers.{Numbers}
 use Rattle.mesh_reader.specs.declared.reader.TextReader.{TextReader}
 use Rattle.mesh_reader.specs.Reading.{reading_from}
 use Rattle.mesh_reader.specs.Keeping.{keeping, keeping_port}
 use Rattle.mesh_reader.specs.Readers.{kept, reader_means, reader_port, SameBut}
-
-pub length_kept : (r : TextReader) → length (kept r) ≡ r.end - r.start
-length_kept r =
-    let a = length-take (r.end - r.start) (drop r.start r.bytes) in
-    let b = length-drop r.start r.bytes in
-    let c = r.size in
-    let d = r.inside in
-    omega arith
-
--- n bytes from `start` on, copied to the front
-pub at_front : (bs : List ℕ) (start n : ℕ) → start + n ≤ length bs → take (n - 0) (drop 0 (paste bs 0 (drop start bs) n)) ≡ take n (drop start bs)
-at_front bs start n h =
-    let a = length-take n (drop start bs) in
-    let b = length-drop start bs in
-    ap (λ (k : ℕ). take k (take n (drop start bs) ++ drop (0 + n) bs)) (let e : n - 0 ≡ n = omega arith in e) ∙ take_at (take n (drop start bs)) (drop (0 + n) bs) n (omega arith)
 
 -- k bytes more, written behind the first e
 pub behind_kept : (bs ys : List ℕ) (e k : ℕ) → e ≤ length bs → length ys ≡ k → take (e + k - 0) (drop 0 (put_mid e (e + k - e) bs ys)) ≡ take (e - 0) (drop 0 bs) ++ ys
@@ -38,17 +23,16 @@ opened b xs e = subst (λ c. Open (keeping_port c xs)) (sym e) tt
 
 -- m differs from the reader r in where its bytes stand; xs is what is kept in the end.
 pub fed : (r m : TextReader) (piece xs : List ℕ) (k : ℕ) → r.closed ≡ false → SameBut r m → xs ≡ kept r ++ take k piece → k ≡ min (length piece) (4096 - length (kept r))
-    → Takes (reader_port r) (reader_means r) piece k (keeping_port m.closed xs) (keeping m.closed m.line m.vertex xs)
+    → Takes (reader_port r) (reader_means r) piece k (keeping_port m.closed xs) (keeping m.closed m.next.line m.next.vertex xs)
 fed r m piece xs k o same more c = record {
   was_open = opened r.closed (kept r) o;
   count = c ∙ sym (ap (λ b. min (length piece) (room (keeping_port b (kept r)))) o);
   behind = λ t u.
-      ap (λ b. keeping b m.line m.vertex xs t u) (same.closed ∙ o)
-      ∙ ap (λ (n : ℕ). reading_from n m.vertex (xs ++ t) u) same.line
-      ∙ ap (λ (n : ℕ). reading_from r.line n (xs ++ t) u) same.vertex
-      ∙ ap (λ (ys : List ℕ). reading_from r.line r.vertex (ys ++ t) u) more
-      ∙ ap (λ (ys : List ℕ). reading_from r.line r.vertex ys u) (append_assoc (kept r) (take k piece) t)
-      ∙ sym (ap (λ b. keeping b r.line r.vertex (kept r) (take k piece ++ t) u) o);
+      ap (λ b. keeping b m.next.line m.next.vertex xs t u) (same.closed ∙ o)
+      ∙ ap (λ (n : Numbers). reading_from n.line n.vertex (xs ++ t) u) same.next
+      ∙ ap (λ (ys : List ℕ). reading_from r.next.line r.next.vertex (ys ++ t) u) more
+      ∙ ap (λ (ys : List ℕ). reading_from r.next.line r.next.vertex ys u) (append_assoc (kept r) (take k piece) t)
+      ∙ sym (ap (λ b. keeping b r.next.line r.next.vertex (kept r) (take k piece ++ t) u) o);
   stays_open = opened m.closed xs (same.closed ∙ o);
 }
 
@@ -71,22 +55,3 @@ module _ (r m : TextReader) (piece ys : List ℕ) (k : ℕ) (moved : kept m ≡ 
   pub more : take (m.end + k - m.start) (drop m.start (put_mid m.end (m.end + k - m.end) m.bytes ys)) ≡ kept r ++ take k piece
   more =
       behind_start m ys k start copied_length ∙ ap (λ (xs : List ℕ). xs ++ ys) moved ∙ ap (λ (xs : List ℕ). kept r ++ xs) copied_whole
-
-  -- The array keeps its size, and what is kept lies within it.
-  pub still_inside : m.end + k ≤ 4096
-  still_inside = let a = length_kept m in let i = m.inside in omega arith
-
-  pub same_size : length (put_mid m.end (m.end + k - m.end) m.bytes ys) ≡ 4096
-  same_size =
-      let e = m.end in
-      let n : ℕ = e + k - e in
-      let bs = m.bytes in
-      let a : length (put_mid e n bs ys) ≡ length (take e bs) + length (ys ++ drop n (drop e bs)) = length-append (take e bs) (ys ++ drop n (drop e bs)) in
-      let b : length (ys ++ drop n (drop e bs)) ≡ length ys + length (drop n (drop e bs)) = length-append ys (drop n (drop e bs)) in
-      let d = length-take e bs in
-      let f = length-drop n (drop e bs) in
-      let g = length-drop e bs in
-      let h = copied_length in
-      let s = m.size in
-      let i = still_inside in
-      omega arith

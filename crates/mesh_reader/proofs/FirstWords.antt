@@ -1,38 +1,51 @@
 -- The first word of a line.
-use Rattle.std.proofs.Common.{◌≡◌, ℕ, ◌+◌, ◌<◌, true, false, eqb, List, [], ◌∷◌, length, get_or, drop, sym, refl, ap, ◌∙◌}
-use Rattle.std.proofs.lemmas.Bool.{both_ways, or_parts}
-use Rattle.mesh_reader.specs.declared.content.FirstWord.TheVariants.{Comment, Letter, Other}
-use Rattle.mesh_reader.specs.Text.{blank, line_end}
-use Rattle.mesh_reader.specs.Scanning.{separates, front, at_word_end, rest_words, Within}
-use Rattle.mesh_reader.specs.Reading.{first_word, behind_first, kind_of, by_first_byte}
-use Rattle.mesh_reader.proofs.Words.{word_first, word_off, word_byte, word_more, front_on, front_end, behind_more, within_more, within_here}
-use Rattle.mesh_reader.proofs.Magnitudes.{behind_end}
+use Rattle.std.proofs.Common.{◌≡◌, ℕ, Bool, true, false, ◌==◌, List, [], ◌∷◌, Some, None, sym, refl, ap, ◌∙◌}
+use Rattle.std.proofs.lemmas.Bool.{both_ways, not-true, eq-eqb, ne_eqb}
+use Rattle.mesh_reader.specs.declared.content.FirstWord.TheVariants.{Missing, Comment, Letter, Other}
+use Rattle.mesh_reader.specs.Text.{line_end}
+use Rattle.mesh_reader.specs.Scanning.{separates, in_word, front, behind, past_blanks, at_word_end, rest_words, SameLine, NextIf}
+use Rattle.mesh_reader.specs.Reading.{first_word, behind_first, by_first_byte}
+use Rattle.mesh_reader.specs.Lines.{Begun}
+use Rattle.mesh_reader.proofs.Words.{blanks_off, byte_off, words_past, no_word, word_ends, word_first, front_on, behind_on, front_end, behind_end}
 
-longer_word : (b : ℕ) (bs : List ℕ) → at_word_end bs ≡ false → by_first_byte false b (front separates bs) ≡ Other
-longer_word b [] e = absurd (both_ways true e refl)
-longer_word b (c ∷ bs) e = ap (by_first_byte false b) (front_on c bs e)
+-- The line goes on at `at`, behind its blanks.
+module _ (old at new : List ℕ) (passed : at ≡ past_blanks old) where
+  pub missing : NextIf in_word at None new → Begun old Missing new
+  missing (e, stays) = record {
+    same = ap (behind line_end) stays ∙ blanks_off old at passed;
+    is = sym (ap first_word (no_word old (ap at_word_end (sym passed) ∙ word_ends at e)));
+    left = tt;
+  }
 
-module _ (bs : List ℕ) (at : ℕ) (h : at < length bs) (e : at_word_end (drop at bs) ≡ false) where
-  first_is : first_word (rest_words bs at) ≡ by_first_byte (eqb (get_or bs at 0) 35) (get_or bs at 0) (front separates (drop (at + 1) bs))
-  first_is = ap first_word (word_first (drop at bs) e) ∙ ap kind_of (word_more bs at h (word_byte bs at h e))
+  module _ (b : ℕ) (next : NextIf in_word at (Some b) new) where
+    goes_on : separates b ≡ false
+    goes_on = not-true (separates b) next.0
 
-  pub is_comment : eqb (get_or bs at 0) 35 ≡ true → first_word (rest_words bs at) ≡ Comment
-  is_comment k = first_is ∙ ap (λ t. by_first_byte t (get_or bs at 0) (front separates (drop (at + 1) bs))) k
+    same : SameLine old new
+    same = byte_off old at new b passed goes_on next.1
 
-  module _ (k : eqb (get_or bs at 0) 35 ≡ false) where
-    no_comment : first_word (rest_words bs at) ≡ by_first_byte false (get_or bs at 0) (front separates (drop (at + 1) bs))
-    no_comment = first_is ∙ ap (λ t. by_first_byte t (get_or bs at 0) (front separates (drop (at + 1) bs))) k
+    words_are : rest_words old ≡ (b ∷ front separates new) ∷ rest_words (behind separates new)
+    words_are =
+        sym (words_past old) ∙ ap rest_words (sym passed ∙ next.1) ∙ word_first (b ∷ new) goes_on
+        ∙ ap (λ (w : List ℕ). w ∷ rest_words (behind separates (b ∷ new))) (front_on b new goes_on)
+        ∙ ap (λ (xs : List ℕ). (b ∷ front separates new) ∷ rest_words xs) (behind_on b new goes_on)
 
-    pub is_letter : at_word_end (drop (at + 1) bs) ≡ true → first_word (rest_words bs at) ≡ Letter (get_or bs at 0)
-    is_letter f = no_comment ∙ ap (by_first_byte false (get_or bs at 0)) (front_end (drop (at + 1) bs) f)
+    first_is : (t : Bool) → (b == 35) ≡ t → first_word (rest_words old) ≡ by_first_byte t b (front separates new)
+    first_is t k = ap first_word words_are ∙ ap (λ s. by_first_byte s b (front separates new)) k
 
-    pub is_other : at_word_end (drop (at + 1) bs) ≡ false → first_word (rest_words bs at) ≡ Other
-    is_other f = no_comment ∙ longer_word (get_or bs at 0) (drop (at + 1) bs) f
+    pub comment : b ≡ 35 → Begun old Comment new
+    comment k = record { same = same; is = sym (first_is true (eq-eqb b 35 k)); left = tt }
 
-  pub behind_letter : at_word_end (drop (at + 1) bs) ≡ true → behind_first (rest_words bs at) ≡ rest_words bs (at + 1)
-  behind_letter f =
-      ap behind_first (word_off bs at (at + 1) e (sym (behind_end (drop (at + 1) bs) f) ∙ behind_more separates bs at h (word_byte bs at h e)))
+    pub letter : (c : ℕ) → c ≡ b → (b ≡ 35 → ⊥) → at_word_end new ≡ true → Begun old (Letter c) new
+    letter c q k f = record {
+      same = same;
+      is = ap Letter q ∙ sym (first_is false (ne_eqb b 35 k) ∙ ap (by_first_byte false b) (front_end new f));
+      left = ap behind_first words_are ∙ ap rest_words (behind_end new f);
+    }
 
-  pub within_letter : Within bs at (at + 1)
-  within_letter =
-      within_more bs at at (within_here bs at h) h (or_parts (blank (get_or bs at 0)) (line_end (get_or bs at 0)) (word_byte bs at h e)).1
+    pub other : (b ≡ 35 → ⊥) → at_word_end new ≡ false → Begun old Other new
+    other k f = record { same = same; is = sym (first_is false (ne_eqb b 35 k) ∙ longer new f); left = tt }
+      where
+        longer : (bs : List ℕ) → at_word_end bs ≡ false → by_first_byte false b (front separates bs) ≡ Other
+        longer [] e = absurd (both_ways true e refl)
+        longer (c ∷ bs) e = ap (by_first_byte false b) (front_on c bs e)

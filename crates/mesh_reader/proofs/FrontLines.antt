@@ -1,17 +1,16 @@
 -- The line at the front of a text, of which no more than 128 bytes are looked at.
-use Rattle.std.proofs.Common.{◌≡◌, ℕ, zero, suc, ◌+◌, ◌-◌, ◌<◌, ◌≤◌, min, Bool, true, false, cond, ltb, leb, ◌⊎◌, List, [], ◌∷◌, ◌++◌, length, take, drop, Some, None, sym, refl, ap, ◌∙◌, subst, inl, inr, append_assoc, append-nil, arith, length-append}
+use Rattle.std.proofs.Common.{◌≡◌, ℕ, zero, suc, ◌+◌, ◌-◌, ◌<◌, ◌≤◌, min, Bool, true, false, cond, ltb, leb, ◌⊎◌, List, [], ◌∷◌, ◌++◌, length, take, drop, Some, None, Err, sym, refl, ap, ◌∙◌, subst, inl, inr, append_assoc, append-nil, arith, length-append}
 use Rattle.std.proofs.lemmas.List.{length-take, take_all, drop_all}
 use Rattle.std.proofs.lemmas.Bool.{eqb-true, both_ways, leb-true, leb-false, le-leb, lt-leb, cases_lt}
 use Rattle.mesh_stream.specs.declared.event.Event.{Event}
 use Rattle.mesh_stream.specs.declared.fault.Cause.TheVariants.{LineTooLong, TooManyLines}
 use Rattle.mesh_stream.specs.declared.stage.Standing.TheVariants.{Waiting, Ended}
 use Rattle.mesh_stream.specs.Meaning.{Mark, unclosed, closed, Outcome, outcome}
-use Rattle.mesh_reader.specs.declared.content.LineContent.{LineContent}
-use Rattle.mesh_reader.specs.declared.content.LineContent.TheVariants.{Wrong}
 use Rattle.mesh_reader.specs.Text.{onto_first, split, pieces, some_bytes, words, line_end, last_counts, lines_in}
-use Rattle.mesh_reader.specs.Reading.{by_words, in_time, line_content, fault, and_on, read_lines, at_end, reading_from, rejoined, after_line, unread_pieces, unread}
+use Rattle.mesh_reader.specs.Reading.{LineContent, by_words, in_time, line_content, fault, and_on, read_lines, at_end, reading_from, rejoined, after_line, unread_pieces, unread}
 use Rattle.mesh_reader.specs.ReadingLaw.{SomePieces, some_pieces, line_before, first_piece_long, long_cause, long_wrong}
 use Rattle.mesh_reader.specs.Scanning.{front}
+use Rattle.mesh_reader.proofs.Words.{front_length}
 use Rattle.mesh_reader.specs.Keeping.{keeping, mark_at, Front}
 
 -- what follows the first piece
@@ -91,17 +90,9 @@ one_piece (b ∷ bs) h = by (line_end b) refl (one_piece bs)
         ap (λ s. split s b (pieces line_end bs)) e ∙ ap (onto_first b) (later (omega arith))
 
 short_content : (p n : ℕ) (l : List ℕ) → length l < 128 → line_content p n l ≡ in_time p (by_words p n (words l))
-short_content p n l h = ap (λ t. in_time p (cond t (Wrong LineTooLong) (by_words p n (words l)))) (lt-leb 128 (length l) h)
+short_content p n l h = ap (λ t. in_time p (cond t (Err LineTooLong) (by_words p n (words l)))) (lt-leb 128 (length l) h)
 
-length_front_le : (stops : ℕ → Bool) (bs : List ℕ) → length (front stops bs) ≤ length bs
-length_front_le stops [] = omega arith
-length_front_le stops (b ∷ bs) = by (stops b) (length_front_le stops bs)
-  where
-    by : (t : Bool) → length (front stops bs) ≤ length bs → length (cond t [] (b ∷ front stops bs)) ≤ suc (length bs)
-    by true h = omega arith
-    by false h = omega arith
-
-late_or_long : (p n : ℕ) (t : Bool) (later : ℕ → Outcome Event) → and_on p n (cond t (Wrong TooManyLines) (Wrong LineTooLong)) later ≡ outcome [] (fault (long_cause t) p)
+late_or_long : (p n : ℕ) (t : Bool) (later : ℕ → Outcome Event) → and_on p n (cond t (Err TooManyLines) (Err LineTooLong)) later ≡ outcome [] (fault (long_cause t) p)
 late_or_long p n true later = refl
 late_or_long p n false later = refl
 
@@ -136,7 +127,7 @@ unread_long closed p n (b ∷ l) [] h = ap (λ g. after_line g (b ∷ l) [] []) 
 unread_long unclosed p n l (q ∷ ps) h = ap (λ g. after_line g (rejoined (l ∷ (q ∷ ps))) (rejoined (q ∷ ps)) (unread_pieces unclosed (suc p) n (q ∷ ps))) (long_wrong p n l h)
 unread_long closed p n l (q ∷ ps) h = ap (λ g. after_line g (rejoined (l ∷ (q ∷ ps))) (rejoined (q ∷ ps)) (unread_pieces closed (suc p) n (q ∷ ps))) (long_wrong p n l h)
 
-late_or_long_keeps : (t : Bool) (all behind later : List ℕ) → after_line (cond t (Wrong TooManyLines) (Wrong LineTooLong)) all behind later ≡ all
+late_or_long_keeps : (t : Bool) (all behind later : List ℕ) → after_line (cond t (Err TooManyLines) (Err LineTooLong)) all behind later ≡ all
 late_or_long_keeps true all behind later = refl
 late_or_long_keeps false all behind later = refl
 
@@ -148,7 +139,7 @@ module _ (c : Bool) (p n : ℕ) (kept window : List ℕ) (is : window ≡ take 1
   whole_line : length line < length window → kept ≡ line ++ (10 ∷ drop (suc (length line)) kept)
   whole_line h = subst (λ (w : List ℕ). kept ≡ front line_end w ++ (10 ∷ drop (suc (length (front line_end w))) kept)) (sym is) (complete 128 kept (subst (λ (w : List ℕ). length (front line_end w) < length w) is h))
 
-  takes_line : length window ≤ 128 → length line < length window → Front c p n kept (Some (record { found = by_words p n (words line); at = length line + 1 }))
+  takes_line : length window ≤ 128 → length line < length window → Front c p n kept (Some (record { content = by_words p n (words line); length = length line + 1 }))
   takes_line k h =
       let e = whole_line h in
       let w : length kept ≡ length line + length (10 ∷ drop (suc (length line)) kept) = ap length e ∙ length-append line (10 ∷ drop (suc (length line)) kept) in
@@ -184,10 +175,10 @@ module _ (c : Bool) (p n : ℕ) (kept window : List ℕ) (is : window ≡ take 1
   length_window : length window ≡ min 128 (length kept)
   length_window = ap length is ∙ length-take 128 kept
 
-  too_long : length window ≡ 128 → length window ≤ length line → Front c p n kept (Some (record { found = Wrong LineTooLong; at = 128 }))
+  too_long : length window ≡ 128 → length window ≤ length line → Front c p n kept (Some (record { content = Err LineTooLong; length = 128 }))
   too_long k h = let w = length_window in record { some = omega arith; inside = omega arith; reads = at c; leaves = left (mark_at c) }
     where
-      left : (m : Mark) → unread m p n kept ≡ after_line (in_time p (Wrong LineTooLong)) kept (drop 128 kept) (unread m (suc p) n (drop 128 kept))
+      left : (m : Mark) → unread m p n kept ≡ after_line (in_time p (Err LineTooLong)) kept (drop 128 kept) (unread m (suc p) n (drop 128 kept))
       left m =
           let f = first_piece kept in
           let w = length_window in
@@ -196,7 +187,7 @@ module _ (c : Bool) (p n : ℕ) (kept window : List ℕ) (is : window ≡ take 1
           ap (unread_pieces m p n) f.1 ∙ unread_long m p n (front line_end kept) f.0 (le-leb 128 (length (front line_end kept)) v) ∙ ap rejoined (sym f.1) ∙ rejoined_pieces kept
           ∙ sym (late_or_long_keeps (ltb 1000000000 p) kept (drop 128 kept) (unread m (suc p) n (drop 128 kept)))
 
-      long : (t : List ℕ) (m : Mark) (later : ℕ → Outcome Event) → reading_from p n (kept ++ t) m ≡ and_on p n (in_time p (Wrong LineTooLong)) later
+      long : (t : List ℕ) (m : Mark) (later : ℕ → Outcome Event) → reading_from p n (kept ++ t) m ≡ and_on p n (in_time p (Err LineTooLong)) later
       long t m later =
           let f = first_piece (kept ++ t) in
           let w = length_window in
@@ -205,7 +196,7 @@ module _ (c : Bool) (p n : ℕ) (kept window : List ℕ) (is : window ≡ take 1
           ∙ first_piece_long m (at_end m) p n (front line_end (kept ++ t)) f.0 (le-leb 128 (length (front line_end (kept ++ t))) u)
           ∙ sym (late_or_long p n (ltb 1000000000 p) later)
 
-      at : (d : Bool) (t : List ℕ) (m : Mark) → keeping d p n kept t m ≡ and_on p n (in_time p (Wrong LineTooLong)) (λ next. keeping d (suc p) next (drop 128 kept) t m)
+      at : (d : Bool) (t : List ℕ) (m : Mark) → keeping d p n kept t m ≡ and_on p n (in_time p (Err LineTooLong)) (λ next. keeping d (suc p) next (drop 128 kept) t m)
       at true t m = ap (λ (xs : List ℕ). reading_from p n xs closed) (sym (append-nil kept)) ∙ long [] closed (λ next. keeping true (suc p) next (drop 128 kept) t m)
       at false t m = long t m (λ next. keeping false (suc p) next (drop 128 kept) t m)
 
@@ -240,10 +231,10 @@ module _ (c : Bool) (p n : ℕ) (kept window : List ℕ) (is : window ≡ take 1
         left true e = ap (unread closed p n) e ∙ sym e
         left false e = ap (unread unclosed p n) e ∙ sym e
 
-    last_line : c ≡ true → 0 < length window → Front c p n kept (Some (record { found = by_words p n (words line); at = length line }))
-    last_line e z = subst (λ d. Front d p n kept (Some (record { found = by_words p n (words line); at = length line }))) (sym e) (record {
+    last_line : c ≡ true → 0 < length window → Front c p n kept (Some (record { content = by_words p n (words line); length = length line }))
+    last_line e z = subst (λ d. Front d p n kept (Some (record { content = by_words p n (words line); length = length line }))) (sym e) (record {
       some = omega arith;
-      inside = let l = length_front_le line_end window in let w = length_window in omega arith;
+      inside = let l = front_length line_end window in let w = length_window in omega arith;
       reads = λ t m.
           unfinished closed ∙ ap (λ s. read_lines p n (cond s (kept ∷ []) []) Ended) some_kept
           ∙ ap (λ g. and_on p n g (λ next. outcome [] Ended)) content
@@ -289,25 +280,25 @@ module _ (c : Bool) (p n : ℕ) (kept : List ℕ) (size : ℕ) (f : LineContent)
   at_most : size ≤ 128
   at_most = let s = looked.sized in omega arith
 
-  pub front_complete : a < size → Front c p n kept (Some (record { found = f; at = a + 1 }))
+  pub front_complete : a < size → Front c p n kept (Some (record { content = f; length = a + 1 }))
   front_complete h =
       let w = window_size in
       let m = at_most in
       let s = looked.stop in
-      subst (λ (g : LineContent). Front c p n kept (Some (record { found = g; at = a + 1 }))) (sym looked.content)
-      (subst (λ (k : ℕ). Front c p n kept (Some (record { found = by_words p n (words (front line_end window)); at = k + 1 }))) (sym s)
+      subst (λ (g : LineContent). Front c p n kept (Some (record { content = g; length = a + 1 }))) (sym looked.content)
+      (subst (λ (k : ℕ). Front c p n kept (Some (record { content = by_words p n (words (front line_end window)); length = k + 1 }))) (sym s)
       (takes_line c p n kept window window_is (omega arith) (omega arith)))
 
-  pub front_long : size ≤ a → leb 128 size ≡ true → Front c p n kept (Some (record { found = Wrong LineTooLong; at = 128 }))
+  pub front_long : size ≤ a → leb 128 size ≡ true → Front c p n kept (Some (record { content = Err LineTooLong; length = 128 }))
   front_long h k = let w = window_size in let m = at_most in let l = leb-true 128 size k in let s = looked.stop in too_long c p n kept window window_is (omega arith) (omega arith)
 
-  pub front_last : size ≤ a → leb 128 size ≡ false → c ≡ true → 0 < size → Front c p n kept (Some (record { found = f; at = a }))
+  pub front_last : size ≤ a → leb 128 size ≡ false → c ≡ true → 0 < size → Front c p n kept (Some (record { content = f; length = a }))
   front_last h k e z =
       let w = window_size in
       let l = leb-false 128 size k in
       let s = looked.stop in
-      subst (λ (g : LineContent). Front c p n kept (Some (record { found = g; at = a }))) (sym looked.content)
-      (subst (λ (j : ℕ). Front c p n kept (Some (record { found = by_words p n (words (front line_end window)); at = j }))) (sym s)
+      subst (λ (g : LineContent). Front c p n kept (Some (record { content = g; length = a }))) (sym looked.content)
+      (subst (λ (j : ℕ). Front c p n kept (Some (record { content = by_words p n (words (front line_end window)); length = j }))) (sym s)
       (last_line c p n kept window window_is (omega arith) (omega arith) e (omega arith)))
 
   pub front_none : size ≤ a → leb 128 size ≡ false → (c ≡ false) ⊎ (size ≤ 0) → Front c p n kept None

@@ -1,7 +1,5 @@
 mod Words
-mod Digits
 mod Magnitudes
-mod Minus
 mod FirstWords
 mod FrontLines
 mod LinesTaken

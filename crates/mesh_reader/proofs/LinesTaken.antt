@@ -1,16 +1,12 @@
 -- A line that was read and dropped.
-use Rattle.std.proofs.Common.{◌≡◌, ℕ, suc, ◌+◌, ◌-◌, ◌≤◌, Bool, true, false, List, length, take, drop, Ok, sym, refl, ap, ◌∙◌, add-one, arith, length-drop}
+use Rattle.std.proofs.Common.{◌≡◌, ℕ, suc, ◌+◌, ◌-◌, ◌≤◌, Bool, true, false, List, length, take, drop, Some, None, Ok, sym, ap, ◌∙◌, add-one, arith, length-drop}
 use Rattle.std.proofs.lemmas.List.{drop-drop, drop-take, length-take}
-use Rattle.mesh_stream.specs.declared.event.Point.{Point}
 use Rattle.mesh_stream.specs.declared.event.Event.{Event}
-use Rattle.mesh_stream.specs.declared.event.Event.TheVariants.{Vertex, Triangle, Finalization}
 use Rattle.mesh_stream.specs.Meaning.{Mark, prepend}
 use Rattle.mesh_stream.specs.Calls.{SameKind}
-use Rattle.mesh_reader.specs.declared.content.LineContent.{LineContent}
-use Rattle.mesh_reader.specs.declared.content.LineContent.TheVariants.{Nothing, Gives}
 use Rattle.mesh_reader.specs.declared.reader.TextReader.{TextReader}
-use Rattle.mesh_reader.specs.declared.scan.Scanned.{Scanned}
-use Rattle.mesh_reader.specs.Reading.{in_time, vertex_after, and_on, after_line, unread}
+use Rattle.mesh_reader.specs.declared.content.Line.{Line}
+use Rattle.mesh_reader.specs.Reading.{LineContent, in_time, vertex_after, and_on, after_line, unread}
 use Rattle.mesh_reader.specs.Keeping.{keeping, keeping_port, mark_at, FrontLine}
 use Rattle.mesh_reader.specs.Readers.{kept, reader_means, reader_port, leaves, Dropped, Answered}
 
@@ -19,7 +15,7 @@ pub record Moved (r s : TextReader) (n : ℕ) : Type 0 where
   pub bytes : s.bytes ≡ r.bytes
   pub start : s.start ≡ r.start + n
   pub end : s.end ≡ r.end
-  pub line : s.line ≡ r.line + 1
+  pub line : s.next.line ≡ r.next.line + 1
   pub closed : s.closed ≡ r.closed
 
 same_kind : (c d : Bool) (xs ys : List ℕ) → d ≡ c → SameKind (keeping_port c xs) (keeping_port d ys)
@@ -32,9 +28,9 @@ drop_part bs from to n h =
     let e : to - from ≡ n + m = omega arith in
     ap (take m) (sym (drop-drop n from bs)) ∙ sym (drop-take n m (drop from bs)) ∙ ap (λ (k : ℕ). drop n (take k (drop from bs))) (sym e)
 
-module _ (r s : TextReader) (line : Scanned LineContent) (moved : Moved r s line.at) (front : FrontLine r.closed r.line r.vertex (kept r) line) where
+module _ (r s : TextReader) (line : Line) (moved : Moved r s line.length) (front : FrontLine r.closed r.next.line r.next.vertex (kept r) line) where
   abbrev rest : List ℕ
-  rest = drop line.at (kept r)
+  rest = drop line.length (kept r)
 
   pub kept_moved : kept s ≡ rest
   kept_moved =
@@ -43,52 +39,46 @@ module _ (r s : TextReader) (line : Scanned LineContent) (moved : Moved r s line
       ap (λ (bs : List ℕ). take (s.end - s.start) (drop s.start bs)) moved.bytes
       ∙ ap (λ (k : ℕ). take (k - s.start) (drop s.start r.bytes)) moved.end
       ∙ ap (λ (k : ℕ). take (r.end - k) (drop k r.bytes)) moved.start
-      ∙ drop_part r.bytes r.start r.end line.at (omega arith)
+      ∙ drop_part r.bytes r.start r.end line.length (omega arith)
 
-  line_moved : s.line ≡ suc r.line
-  line_moved = moved.line ∙ add-one r.line
+  line_moved : s.next.line ≡ suc r.next.line
+  line_moved = moved.line ∙ add-one r.next.line
 
-  means_moved : (v : ℕ) → s.vertex ≡ v → (t : List ℕ) (m : Mark) → reader_means s t m ≡ keeping r.closed (suc r.line) v rest t m
+  means_moved : (v : ℕ) → s.next.vertex ≡ v → (t : List ℕ) (m : Mark) → reader_means s t m ≡ keeping r.closed (suc r.next.line) v rest t m
   means_moved v e t m =
-      ap (λ b. keeping b s.line s.vertex (kept s) t m) moved.closed
-      ∙ ap (λ (k : ℕ). keeping r.closed k s.vertex (kept s) t m) line_moved
-      ∙ ap (λ (k : ℕ). keeping r.closed (suc r.line) k (kept s) t m) e
-      ∙ ap (λ (xs : List ℕ). keeping r.closed (suc r.line) v xs t m) kept_moved
+      ap (λ b. keeping b s.next.line s.next.vertex (kept s) t m) moved.closed
+      ∙ ap (λ (k : ℕ). keeping r.closed k s.next.vertex (kept s) t m) line_moved
+      ∙ ap (λ (k : ℕ). keeping r.closed (suc r.next.line) k (kept s) t m) e
+      ∙ ap (λ (xs : List ℕ). keeping r.closed (suc r.next.line) v xs t m) kept_moved
 
   port_moved : SameKind (reader_port r) (reader_port s)
   port_moved = same_kind r.closed s.closed (kept r) (kept s) moved.closed
 
-  leaves_moved : s.vertex ≡ r.vertex → leaves s ≡ unread (mark_at r.closed) (suc r.line) r.vertex rest
+  leaves_moved : s.next.vertex ≡ r.next.vertex → leaves s ≡ unread (mark_at r.closed) (suc r.next.line) r.next.vertex rest
   leaves_moved e =
-      ap (λ b. unread (mark_at b) s.line s.vertex (kept s)) moved.closed
-      ∙ ap (λ (k : ℕ). unread (mark_at r.closed) k s.vertex (kept s)) line_moved
-      ∙ ap (λ (k : ℕ). unread (mark_at r.closed) (suc r.line) k (kept s)) e
-      ∙ ap (unread (mark_at r.closed) (suc r.line) r.vertex) kept_moved
+      ap (λ b. unread (mark_at b) s.next.line s.next.vertex (kept s)) moved.closed
+      ∙ ap (λ (k : ℕ). unread (mark_at r.closed) k s.next.vertex (kept s)) line_moved
+      ∙ ap (λ (k : ℕ). unread (mark_at r.closed) (suc r.next.line) k (kept s)) e
+      ∙ ap (unread (mark_at r.closed) (suc r.next.line) r.next.vertex) kept_moved
 
-  left : (content : LineContent) → in_time r.line line.found ≡ content → leaves r ≡ after_line content (kept r) rest (unread (mark_at r.closed) (suc r.line) r.vertex rest)
+  left : (content : LineContent) → in_time r.next.line line.content ≡ content → leaves r ≡ after_line content (kept r) rest (unread (mark_at r.closed) (suc r.next.line) r.next.vertex rest)
   left content e =
-      front.leaves ∙ ap (λ (g : LineContent). after_line g (kept r) rest (unread (mark_at r.closed) (suc r.line) r.vertex rest)) e
+      front.leaves ∙ ap (λ (g : LineContent). after_line g (kept r) rest (unread (mark_at r.closed) (suc r.next.line) r.next.vertex rest)) e
 
-  reads : (content : LineContent) → in_time r.line line.found ≡ content → (t : List ℕ) (m : Mark) → reader_means r t m ≡ and_on r.line r.vertex content (λ next. keeping r.closed (suc r.line) next rest t m)
+  reads : (content : LineContent) → in_time r.next.line line.content ≡ content → (t : List ℕ) (m : Mark) → reader_means r t m ≡ and_on r.next.line r.next.vertex content (λ next. keeping r.closed (suc r.next.line) next rest t m)
   reads content e t m =
-      front.reads t m ∙ ap (λ (g : LineContent). and_on r.line r.vertex g (λ next. keeping r.closed (suc r.line) next rest t m)) e
+      front.reads t m ∙ ap (λ (g : LineContent). and_on r.next.line r.next.vertex g (λ next. keeping r.closed (suc r.next.line) next rest t m)) e
 
-  pub dropped : in_time r.line line.found ≡ Nothing → s.vertex ≡ r.vertex → Dropped r s
+  pub dropped : in_time r.next.line line.content ≡ Ok None → s.next.vertex ≡ r.next.vertex → Dropped r s
   dropped e v = record {
-    same = λ t m. means_moved r.vertex v t m ∙ sym (reads Nothing e t m);
+    same = λ t m. means_moved r.next.vertex v t m ∙ sym (reads (Ok None) e t m);
     port_kept = port_moved;
-    left = leaves_moved v ∙ sym (left Nothing e);
-    shorter = let k = ap length kept_moved in let d = length-drop line.at (kept r) in let a = front.some in let b = front.inside in omega arith;
+    left = leaves_moved v ∙ sym (left (Ok None) e);
+    shorter = let k = ap length kept_moved in let d = length-drop line.length (kept r) in let a = front.some in let b = front.inside in omega arith;
   }
 
-  pub handed_over : (e : Event) → in_time r.line line.found ≡ Gives e → s.vertex ≡ vertex_after r.vertex e → Answered r (Ok e) s
+  pub handed_over : (e : Event) → in_time r.next.line line.content ≡ Ok (Some e) → s.next.vertex ≡ vertex_after r.next.vertex e → Answered r (Ok e) s
   handed_over e g v = record {
-    by_rule = record { first = λ t m. reads (Gives e) g t m ∙ ap (prepend e) (sym (means_moved (vertex_after r.vertex e) v t m)); port_kept = port_moved };
-    left = kept_moved ∙ sym (left (Gives e) g);
+    by_rule = record { first = λ t m. reads (Ok (Some e)) g t m ∙ ap (prepend e) (sym (means_moved (vertex_after r.next.vertex e) v t m)); port_kept = port_moved };
+    left = kept_moved ∙ sym (left (Ok (Some e)) g);
   }
-
--- Only vertices are counted.
-pub not_counted : (v : ℕ) (e : Event) → ((p n : ℕ) (at : Point) → e ≡ Vertex p n at → ⊥) → vertex_after v e ≡ v
-not_counted v (Vertex p n at) h = absurd (h p n at refl)
-not_counted v (Triangle p a b c) h = refl
-not_counted v (Finalization p i) h = refl

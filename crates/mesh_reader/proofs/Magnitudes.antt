@@ -1,21 +1,41 @@
 -- What the digits at the front of a word say of the whole word.
-use Rattle.std.proofs.Common.{◌≡◌, ℕ, zero, suc, ◌+◌, ◌-◌, ◌*◌, ◌<◌, ◌≤◌, Bool, true, false, cond, ◌&&◌, ltb, leb, ◌⊎◌, List, [], ◌∷◌, ◌++◌, length, get_or, drop, Some, None, sym, refl, ap, ◌∙◌, subst, inl, inr, arith, length-append, length-drop}
-use Rattle.std.proofs.lemmas.List.{drop_more, drop_all}
-use Rattle.std.proofs.lemmas.Bool.{both_ways, or_from, ne_eqb, le-leb, lt-leb, lt-ltb, le-ltb, and_from, and_left, and_right}
+use Rattle.std.proofs.Common.{◌≡◌, ℕ, zero, suc, ◌+◌, ◌-◌, ◌*◌, ◌^◌, ◌<◌, ◌≤◌, Bool, true, false, cond, ◌&&◌, leb, ◌⊎◌, List, [], ◌∷◌, length, Some, None, sym, refl, ap, ◌∙◌, subst, inl, inr, add-one, arith}
+use native.Mathlib.Nat.{pow-succ', pow-le-pow_right}
+use Rattle.std.proofs.lemmas.Bool.{both_ways, leb-true, and_parts, or_from, ne_eqb, le-leb, lt-leb, and_from, and_left, and_right}
 use Rattle.mesh_reader.specs.Text.{some_bytes, blank}
 use Rattle.mesh_reader.specs.Numerals.{digit, all_digits, value, magnitude}
-use Rattle.mesh_reader.specs.Scanning.{separates, front, behind, at_word_end, Within, leading}
-use Rattle.mesh_reader.proofs.Digits.{digit_from}
-use Rattle.mesh_reader.proofs.Words.{front_on, behind_on, front_end}
+use Rattle.mesh_reader.specs.Scanning.{separates, front, behind, at_word_end, leading}
+use Rattle.mesh_reader.proofs.Words.{front_on, behind_on, front_end, behind_end}
+
+pub digit_from : (b : ℕ) → digit b ≡ true → 48 ≤ b
+digit_from b e = leb-true 48 b (and_parts (leb 48 b) (leb b 57) e).0
+
+pub digit_to : (b : ℕ) → digit b ≡ true → b ≤ 57
+digit_to b e = leb-true b 57 (and_parts (leb 48 b) (leb b 57) e).1
+
+-- One digit more.
+pub value_more : (v n d : ℕ) → v < 10 ^ n → d ≤ 9 → 10 * v + d < 10 ^ (n + 1)
+value_more v n d h k = let p : 10 ^ (n + 1) ≡ 10 * 10 ^ n = ap (λ (k : ℕ). 10 ^ k) (add-one n) ∙ pow-succ' 10 n in omega arith
+
+pub more_fits : (v n d most : ℕ) → v < 10 ^ n → n < most → most ≤ 9 → d ≤ 9 → 10 * v + d < 1000000000
+more_fits v n d most h k l m =
+    let p : 10 ^ (n + 1) ≤ 10 ^ 9 = pow-le-pow_right {n = 10} (omega arith) {i = n + 1} {j = 9} (omega arith) in
+    let q = value_more v n d h m in
+    omega arith
+
+leading_more : (n high b : ℕ) (bs : List ℕ) → digit b ≡ true → leading (suc n) high (b ∷ bs) ≡ leading n (10 * high + (b - 48)) bs
+leading_more n high b bs e = ap (λ t. cond t (leading n (10 * high + (b - 48)) bs) (high, b ∷ bs)) e
+
+pub digit_read : (i most v d b : ℕ) (at new : List ℕ) → i < most → digit b ≡ true → d ≡ b - 48 → at ≡ b ∷ new → leading (most - (i + 1)) (10 * v + d) new ≡ leading (most - i) v at
+digit_read i most v d b at new h e is old =
+    let n : ℕ = most - (i + 1) in
+    let s : suc n ≡ most - i = omega arith in
+    ap (λ (x : ℕ). leading n (10 * v + x) new) is ∙ sym (leading_more n v b new e) ∙ ap (λ (k : ℕ). leading k v (b ∷ new)) s ∙ ap (leading (most - i) v) (sym old)
 
 pub digit_in_word : (b : ℕ) → digit b ≡ true → separates b ≡ false
 digit_in_word b e =
     let from = digit_from b e in
     or_from (blank b) _ (or_from _ _ (or_from _ _ (ne_eqb b 32 (λ z. omega arith)) (ne_eqb b 9 (λ z. omega arith))) (ne_eqb b 13 (λ z. omega arith))) (ne_eqb b 10 (λ z. omega arith))
-
-pub behind_end : (bs : List ℕ) → at_word_end bs ≡ true → behind separates bs ≡ bs
-behind_end [] e = refl
-behind_end (b ∷ bs) e = ap (λ t. cond t (b ∷ bs) (behind separates bs)) e
 
 -- whether the next byte is one more digit
 abbrev step : ℕ → ℕ → ℕ → List ℕ → Bool → ℕ × List ℕ
@@ -93,66 +113,37 @@ partial (suc n) high (b ∷ bs) e = by (digit b) refl (partial n (10 * high + (b
           left = refl;
         })
 
-pub front_behind : (stops : ℕ → Bool) (bs : List ℕ) → front stops bs ++ behind stops bs ≡ bs
-front_behind stops [] = refl
-front_behind stops (b ∷ bs) = by (stops b) (front_behind stops bs)
-  where
-    by : (t : Bool) → front stops bs ++ behind stops bs ≡ bs → cond t [] (b ∷ front stops bs) ++ cond t (b ∷ bs) (behind stops bs) ≡ b ∷ bs
-    by true h = refl
-    by false h = ap (λ (xs : List ℕ). b ∷ xs) h
+pub magnitude_none : (bs : List ℕ) → at_word_end bs ≡ true → magnitude (front separates bs) ≡ None
+magnitude_none bs e = ap magnitude (front_end bs e)
 
-some_by_length : (w : List ℕ) (from at : ℕ) → length w + from ≡ at → some_bytes w ≡ ltb from at
-some_by_length [] from at e = sym (le-ltb from at (omega arith))
-some_by_length (b ∷ w) from at e = sym (lt-ltb from at (omega arith))
+module _ (bs rest : List ℕ) (v : ℕ) (e : leading 9 0 bs ≡ (v, rest)) where
+  says_whole : at_word_end rest ≡ true → Whole 9 0 bs v rest
+  says_whole g = subst (λ (p : ℕ × List ℕ). Whole 9 0 bs p.0 p.1) e (whole 9 0 bs (ap (λ (p : ℕ × List ℕ). at_word_end p.1) e ∙ g))
 
-module _ (bs : List ℕ) (from at v : ℕ) (within : Within bs from at) (e : leading 9 0 (drop from bs) ≡ (v, drop at bs)) where
-  says_whole : at_word_end (drop at bs) ≡ true → Whole 9 0 (drop from bs) v (drop at bs)
-  says_whole g =
-      subst (λ (p : ℕ × List ℕ). Whole 9 0 (drop from bs) p.0 p.1) e (whole 9 0 (drop from bs) (ap (λ (p : ℕ × List ℕ). at_word_end p.1) e ∙ g))
-
-  pub word_passed : at_word_end (drop at bs) ≡ true → drop at bs ≡ behind separates (drop from bs)
+  pub word_passed : at_word_end rest ≡ true → rest ≡ behind separates bs
   word_passed g = sym (says_whole g).left
 
-  word_length : at_word_end (drop at bs) ≡ true → length (front separates (drop from bs)) + from ≡ at
-  word_length g =
-      let w = front separates (drop from bs) in
-      let a : length w + length (behind separates (drop from bs)) ≡ length (drop from bs) = sym (length-append w (behind separates (drop from bs))) ∙ ap length (front_behind separates (drop from bs)) in
-      let b : length (behind separates (drop from bs)) ≡ length (drop at bs) = ap length (says_whole g).left in
-      let c = length-drop from bs in
-      let d = length-drop at bs in
-      let f = within.forward in
-      let i = within.inside in
-      omega arith
-
-  pub magnitude_whole : at_word_end (drop at bs) ≡ true → magnitude (front separates (drop from bs)) ≡ cond (ltb from at) (Some v) None
-  magnitude_whole g =
-      let w = front separates (drop from bs) in
-      let h = says_whole g in
-      let t : leb (length w) 9 && all_digits w ≡ true = and_from (leb (length w) 9) (all_digits w) (le-leb (length w) 9 h.few) h.digits in
-      by (some_bytes w) (leb (length w) 9 && all_digits w) (value 0 w) t h.says (some_by_length w from at (word_length g))
+  pub magnitude_whole : at_word_end bs ≡ false → at_word_end rest ≡ true → magnitude (front separates bs) ≡ Some v
+  magnitude_whole h g =
+      let w = front separates bs in
+      let k = says_whole g in
+      ap (λ t. cond t (Some (value 0 w)) None) (and_from (some_bytes w) _ (some_in_word bs h) (and_from (leb (length w) 9) (all_digits w) (le-leb (length w) 9 k.few) k.digits)) ∙ ap Some k.says
     where
-      by : (s r : Bool) (n : ℕ) → r ≡ true → n ≡ v → s ≡ ltb from at → cond (s && r) (Some n) None ≡ cond (ltb from at) (Some v) None
-      by true r n a b c = ap (λ t. cond t (Some n) None) a ∙ ap Some b ∙ ap (λ t. cond t (Some v) None) c
-      by false r n a b c = ap (λ t. cond t (Some v) None) c
+      some_in_word : (bs : List ℕ) → at_word_end bs ≡ false → some_bytes (front separates bs) ≡ true
+      some_in_word [] h = absurd (both_ways true h refl)
+      some_in_word (b ∷ bs) h = ap some_bytes (front_on b bs h)
 
-  says_partial : at_word_end (drop at bs) ≡ false → Partial 9 (drop from bs) (drop at bs)
-  says_partial g =
-      subst (λ (p : ℕ × List ℕ). Partial 9 (drop from bs) p.1) e (partial 9 0 (drop from bs) (ap (λ (p : ℕ × List ℕ). at_word_end p.1) e ∙ g))
+  says_partial : at_word_end rest ≡ false → Partial 9 bs rest
+  says_partial g = subst (λ (p : ℕ × List ℕ). Partial 9 bs p.1) e (partial 9 0 bs (ap (λ (p : ℕ × List ℕ). at_word_end p.1) e ∙ g))
 
-  pub word_goes_on : at_word_end (drop at bs) ≡ false → behind separates (drop at bs) ≡ behind separates (drop from bs)
+  pub word_goes_on : at_word_end rest ≡ false → behind separates rest ≡ behind separates bs
   word_goes_on g = (says_partial g).left
 
-  pub magnitude_partial : at_word_end (drop at bs) ≡ false → magnitude (front separates (drop from bs)) ≡ None
+  pub magnitude_partial : at_word_end rest ≡ false → magnitude (front separates bs) ≡ None
   magnitude_partial g =
-      let w = front separates (drop from bs) in
+      let w = front separates bs in
       ap (λ t. cond t (Some (value 0 w)) None) (and_right (some_bytes w) (leb (length w) 9 && all_digits w) (by w (says_partial g).other))
     where
       by : (w : List ℕ) → (9 < length w) ⊎ (all_digits w ≡ false) → leb (length w) 9 && all_digits w ≡ false
       by w (inl h) = and_left (leb (length w) 9) (all_digits w) (lt-leb (length w) 9 h)
       by w (inr h) = and_right (leb (length w) 9) (all_digits w) h
-
-pub end_at : (bs : List ℕ) (at : ℕ) → at < length bs → at_word_end (drop at bs) ≡ separates (get_or bs at 0)
-end_at bs at h = ap at_word_end (drop_more bs at 0 h)
-
-pub end_all : (bs : List ℕ) (at : ℕ) → length bs ≤ at → at_word_end (drop at bs) ≡ true
-end_all bs at h = ap at_word_end (drop_all at bs h)

@@ -1,9 +1,13 @@
 -- The words of a line, as it is gone through from left to right.
-use Rattle.std.proofs.Common.{◌≡◌, ℕ, suc, ◌+◌, ◌<◌, ◌≤◌, Bool, true, false, cond, ◌||◌, ◌⊎◌, List, [], ◌∷◌, length, get_or, drop, filter, sym, refl, ap, ◌∙◌, inl, inr, arith}
-use Rattle.std.proofs.lemmas.List.{drop_more, drop_all}
-use Rattle.std.proofs.lemmas.Bool.{eqb-true, both_ways, or_cases, cases_lt}
+use Rattle.std.proofs.Common.{◌≡◌, ℕ, suc, ◌+◌, ◌<◌, ◌≤◌, Bool, true, false, cond, ◌||◌, ◌==◌, not, is_some, ◌⊎◌, List, [], ◌∷◌, ◌++◌, length, take, map, filter, Some, None, Option, sym, refl, ap, ◌∙◌, inl, inr, arith, append-nil, append_assoc, length-append}
+use Rattle.std.proofs.Math.ListN.{set}
+use Rattle.std.proofs.lemmas.List.{take_all, take_more_set}
+use Rattle.std.proofs.lemmas.Bool.{not-false, eqb-true, eq-eqb, ne_eqb, both_ways, or_cases, or_parts}
+use Rattle.mesh_reader.specs.declared.numeral.Numeral.{Numeral}
 use Rattle.mesh_reader.specs.Text.{onto_first, split, pieces, some_bytes, blank, words, line_end}
-use Rattle.mesh_reader.specs.Scanning.{separates, front, behind, at_word_end, rest_of_line, rest_words, stop_of_line, Within}
+use Rattle.mesh_reader.specs.Numerals.{numeral}
+use Rattle.mesh_reader.specs.Reading.{exactly}
+use Rattle.mesh_reader.specs.Scanning.{separates, in_word, front, behind, past_blanks, begins, at_word_end, rest_words, rest_numerals, SameLine, NextIf, NextMinus}
 
 -- A line end is no blank.
 pub end_not_blank : (b : ℕ) → line_end b ≡ true → blank b ≡ false
@@ -16,47 +20,79 @@ blank_not_end b e = by (line_end b) refl
     by false h = h
     by true h = let z : true ≡ false = sym e ∙ end_not_blank b h in h ∙ z
 
--- One byte on that does not end the line.
-rest_more : (bs : List ℕ) (at : ℕ) → at < length bs → line_end (get_or bs at 0) ≡ false → rest_of_line bs at ≡ get_or bs at 0 ∷ rest_of_line bs (at + 1)
-rest_more bs at h e =
-    ap (front line_end) (drop_more bs at 0 h) ∙ ap (λ t. cond t [] (get_or bs at 0 ∷ rest_of_line bs (at + 1))) e
+-- A word goes on with a byte that does not separate.
+pub front_on : (b : ℕ) (bs : List ℕ) → separates b ≡ false → front separates (b ∷ bs) ≡ b ∷ front separates bs
+front_on b bs e = ap (λ t. cond t [] (b ∷ front separates bs)) e
 
-pub stop_more : (bs : List ℕ) (at : ℕ) → at < length bs → line_end (get_or bs at 0) ≡ false → stop_of_line bs (at + 1) ≡ stop_of_line bs at
-stop_more bs at h e =
-    let n : length (rest_of_line bs at) ≡ suc (length (rest_of_line bs (at + 1))) = ap length (rest_more bs at h e) in omega arith
+pub behind_on : (b : ℕ) (bs : List ℕ) → separates b ≡ false → behind separates (b ∷ bs) ≡ behind separates bs
+behind_on b bs e = ap (λ t. cond t (b ∷ bs) (behind separates bs)) e
+
+pub front_end : (bs : List ℕ) → at_word_end bs ≡ true → front separates bs ≡ []
+front_end [] e = refl
+front_end (b ∷ bs) e = ap (λ t. cond t [] (b ∷ front separates bs)) e
+
+-- Where no byte of a word is next, it has ended.
+pub word_ends : (bs : List ℕ) → begins in_word bs ≡ false → at_word_end bs ≡ true
+word_ends [] e = refl
+word_ends (b ∷ bs) e = not-false (separates b) e
+
+pub minus_next : (old new : List ℕ) (b : Option ℕ) → NextIf (λ b. b == 45) old b new → NextMinus old (is_some b) new
+minus_next old new None e = e
+minus_next old new (Some b) e = e.1 ∙ ap (λ (k : ℕ). k ∷ new) (eqb-true b 45 e.0)
+
+pub behind_end : (bs : List ℕ) → at_word_end bs ≡ true → behind separates bs ≡ bs
+behind_end [] e = refl
+behind_end (b ∷ bs) e = ap (λ t. cond t (b ∷ bs) (behind separates bs)) e
+
+front_behind : (stops : ℕ → Bool) (bs : List ℕ) → front stops bs ++ behind stops bs ≡ bs
+front_behind stops [] = refl
+front_behind stops (b ∷ bs) = by (stops b) (front_behind stops bs)
+  where
+    by : (t : Bool) → front stops bs ++ behind stops bs ≡ bs → cond t [] (b ∷ front stops bs) ++ cond t (b ∷ bs) (behind stops bs) ≡ b ∷ bs
+    by true h = refl
+    by false h = ap (λ (xs : List ℕ). b ∷ xs) h
+
+pub front_length : (stops : ℕ → Bool) (bs : List ℕ) → length bs ≡ length (front stops bs) + length (behind stops bs)
+front_length stops bs = ap length (sym (front_behind stops bs)) ∙ length-append (front stops bs) (behind stops bs)
+
+-- What stops at a line end stays within the line.
+behind_line : (stops : ℕ → Bool) → ((b : ℕ) → line_end b ≡ true → stops b ≡ true) → (bs : List ℕ) → SameLine bs (behind stops bs)
+behind_line stops h [] = refl
+behind_line stops h (b ∷ bs) = by (stops b) (line_end b) refl refl (behind_line stops h bs)
+  where
+    by : (s e : Bool) → stops b ≡ s → line_end b ≡ e → SameLine bs (behind stops bs) → behind line_end (cond (stops b) (b ∷ bs) (behind stops bs)) ≡ behind line_end (b ∷ bs)
+    by true e p q later = ap (λ t. behind line_end (cond t (b ∷ bs) (behind stops bs))) p
+    by false true p q later = absurd (both_ways (stops b) p (h b q))
+    by false false p q later =
+        ap (λ t. behind line_end (cond t (b ∷ bs) (behind stops bs))) p ∙ later ∙ sym (ap (λ t. cond t (b ∷ bs) (behind line_end bs)) q)
+
+pub same_word : (bs : List ℕ) → SameLine bs (behind separates bs)
+same_word = behind_line separates (λ b e. ap (λ t. blank b || t) e ∙ or_true (blank b))
+  where
+    or_true : (t : Bool) → t || true ≡ true
+    or_true true = refl
+    or_true false = refl
+
+pub same_byte : (b : ℕ) (bs : List ℕ) → separates b ≡ false → SameLine (b ∷ bs) bs
+same_byte b bs e = sym (ap (λ t. cond t (b ∷ bs) (behind line_end bs)) (or_parts (blank b) (line_end b) e).1)
+
+pub same_blanks : (bs : List ℕ) → SameLine bs (past_blanks bs)
+same_blanks = behind_line (λ b. not (blank b)) (λ b e. ap not (end_not_blank b e))
 
 -- One blank on.
 words_blank : (b : ℕ) (bs : List ℕ) → blank b ≡ true → words (b ∷ bs) ≡ words bs
 words_blank b bs e = ap (λ t. filter some_bytes (split t b (pieces blank bs))) e
 
-pub words_more : (bs : List ℕ) (at : ℕ) → at < length bs → blank (get_or bs at 0) ≡ true → rest_words bs (at + 1) ≡ rest_words bs at
-words_more bs at h e =
-    sym (ap words (rest_more bs at h (blank_not_end (get_or bs at 0) e)) ∙ words_blank (get_or bs at 0) (rest_of_line bs (at + 1)) e)
+line_blank : (b : ℕ) (bs : List ℕ) → blank b ≡ true → rest_words (b ∷ bs) ≡ rest_words bs
+line_blank b bs e = ap (λ t. words (cond t [] (b ∷ front line_end bs))) (blank_not_end b e) ∙ words_blank b (front line_end bs) e
 
-pub within_more : (bs : List ℕ) (from at : ℕ) → Within bs from at → at < length bs → line_end (get_or bs at 0) ≡ false → Within bs from (at + 1)
-within_more bs from at w h e = record { forward = omega arith; inside = omega arith; same_line = stop_more bs at h e ∙ w.same_line }
-
--- What stands behind a word or a line, one byte on and at its end.
-pub behind_more : (stops : ℕ → Bool) (bs : List ℕ) (at : ℕ) → at < length bs → stops (get_or bs at 0) ≡ false → behind stops (drop (at + 1) bs) ≡ behind stops (drop at bs)
-behind_more stops bs at h e =
-    sym (ap (behind stops) (drop_more bs at 0 h) ∙ ap (λ t. cond t (get_or bs at 0 ∷ drop (at + 1) bs) (behind stops (drop (at + 1) bs))) e)
-
-pub behind_all : (stops : ℕ → Bool) (bs : List ℕ) (at : ℕ) → length bs ≤ at → behind stops (drop at bs) ≡ drop at bs
-behind_all stops bs at h = ap (behind stops) (drop_all at bs h) ∙ sym (drop_all at bs h)
-
-pub behind_here : (stops : ℕ → Bool) (bs : List ℕ) (at : ℕ) → at < length bs → stops (get_or bs at 0) ≡ true → behind stops (drop at bs) ≡ drop at bs
-behind_here stops bs at h e =
-    ap (behind stops) (drop_more bs at 0 h) ∙ ap (λ t. cond t (get_or bs at 0 ∷ drop (at + 1) bs) (behind stops (drop (at + 1) bs))) e ∙ sym (drop_more bs at 0 h)
-
-pub stop_all : (bs : List ℕ) (at : ℕ) → length bs ≤ at → stop_of_line bs at ≡ at
-stop_all bs at h = let n : length (rest_of_line bs at) ≡ 0 = ap (λ (xs : List ℕ). length (front line_end xs)) (drop_all at bs h) in omega arith
-
-pub stop_here : (bs : List ℕ) (at : ℕ) → at < length bs → line_end (get_or bs at 0) ≡ true → stop_of_line bs at ≡ at
-stop_here bs at h e =
-    let n : length (rest_of_line bs at) ≡ 0 = ap (λ (xs : List ℕ). length (front line_end xs)) (drop_more bs at 0 h) ∙ ap (λ t. length (cond t [] (get_or bs at 0 ∷ rest_of_line bs (at + 1)))) e in omega arith
-
-pub within_on : (bs : List ℕ) (from at to : ℕ) → Within bs from at → Within bs at to → Within bs from to
-within_on bs from at to a b = record { forward = omega arith; inside = b.inside; same_line = b.same_line ∙ a.same_line }
+pub words_past : (bs : List ℕ) → rest_words (past_blanks bs) ≡ rest_words bs
+words_past [] = refl
+words_past (b ∷ bs) = by (blank b) refl (words_past bs)
+  where
+    by : (t : Bool) → blank b ≡ t → rest_words (past_blanks bs) ≡ rest_words bs → rest_words (past_blanks (b ∷ bs)) ≡ rest_words (b ∷ bs)
+    by true e later = ap (λ t. rest_words (cond (not t) (b ∷ bs) (past_blanks bs))) e ∙ later ∙ sym (line_blank b bs e)
+    by false e later = ap (λ t. rest_words (cond (not t) (b ∷ bs) (past_blanks bs))) e
 
 -- A word comes off the front of what is left of the line.
 abbrev later_pieces : List ℕ → List (List ℕ)
@@ -109,43 +145,54 @@ word_first (b ∷ bs) e =
     ∙ ap (λ (ws : List (List ℕ)). (b ∷ front separates bs) ∷ ws) (later_words (behind separates (b ∷ bs)) (behind_ends (b ∷ bs)))
     ∙ sym (ap (λ t. cond t [] (b ∷ front separates bs) ∷ words (front line_end (behind separates (b ∷ bs)))) e)
 
-pub word_off : (bs : List ℕ) (at to : ℕ) → at_word_end (drop at bs) ≡ false → drop to bs ≡ behind separates (drop at bs) → rest_words bs at ≡ front separates (drop at bs) ∷ rest_words bs to
-word_off bs at to e d = word_first (drop at bs) e ∙ ap (λ (xs : List ℕ). front separates (drop at bs) ∷ words (front line_end xs)) (sym d)
-
 -- Where no word begins behind the blanks, none is left.
-no_word : (bs : List ℕ) → at_word_end bs ≡ true → ((b : ℕ) (cs : List ℕ) → bs ≡ b ∷ cs → blank b ≡ false) → words (front line_end bs) ≡ []
-no_word [] e n = refl
-no_word (b ∷ bs) e n = by (or_cases (blank b) (line_end b) e)
+pub no_word : (bs : List ℕ) → at_word_end (past_blanks bs) ≡ true → rest_words bs ≡ []
+no_word [] e = refl
+no_word (b ∷ bs) e = by (blank b) refl (no_word bs)
   where
-    by : (blank b ≡ true) ⊎ (line_end b ≡ true) → words (front line_end (b ∷ bs)) ≡ []
-    by (inl s) = absurd (both_ways (blank b) (n b bs refl) s)
-    by (inr s) = ap (λ t. words (cond t [] (b ∷ front line_end bs))) s
+    by : (t : Bool) → blank b ≡ t → (at_word_end (past_blanks bs) ≡ true → rest_words bs ≡ []) → rest_words (b ∷ bs) ≡ []
+    by true s later = line_blank b bs s ∙ later (sym (ap (λ t. at_word_end (cond (not t) (b ∷ bs) (past_blanks bs))) s) ∙ e)
+    by false s later = ends (or_cases (blank b) (line_end b) (sym (ap (λ t. at_word_end (cond (not t) (b ∷ bs) (past_blanks bs))) s) ∙ e))
+      where
+        ends : (blank b ≡ true) ⊎ (line_end b ≡ true) → rest_words (b ∷ bs) ≡ []
+        ends (inl k) = absurd (both_ways (blank b) s k)
+        ends (inr k) = ap (λ t. words (cond t [] (b ∷ front line_end bs))) k
 
-pub no_word_left : (bs : List ℕ) (at : ℕ) → at_word_end (drop at bs) ≡ true → (at < length bs → blank (get_or bs at 0) ≡ false) → rest_words bs at ≡ []
-no_word_left bs at e n = by (cases_lt at (length bs))
-  where
-    by : (at < length bs) ⊎ (length bs ≤ at) → rest_words bs at ≡ []
-    by (inl h) =
-        ap (λ (xs : List ℕ). words (front line_end xs)) (drop_more bs at 0 h)
-        ∙ no_word (get_or bs at 0 ∷ drop (at + 1) bs) (sym (ap at_word_end (drop_more bs at 0 h)) ∙ e) (λ b cs q. ap blank (ap (λ (xs : List ℕ). get_or xs 0 0) (sym q)) ∙ n h)
-    by (inr h) = ap (λ (xs : List ℕ). words (front line_end xs)) (drop_all at bs h)
+-- The next word of the line.
+pub none_next : (old at : List ℕ) → at ≡ past_blanks old → at_word_end at ≡ true → rest_numerals old ≡ []
+none_next old at p e = ap (map numeral) (no_word old (ap at_word_end (sym p) ∙ e))
 
-pub within_here : (bs : List ℕ) (at : ℕ) → at < length bs → Within bs at at
-within_here bs at h = record { forward = omega arith; inside = omega arith; same_line = refl }
+pub one_next : (old at new : List ℕ) (n : Option Numeral) → at ≡ past_blanks old → at_word_end at ≡ false → new ≡ behind separates at → n ≡ numeral (front separates at) → rest_numerals old ≡ n ∷ rest_numerals new
+one_next old at new n p e q v =
+    ap (map numeral) (sym (words_past old) ∙ ap rest_words (sym p) ∙ word_first at e ∙ ap (λ (xs : List ℕ). front separates at ∷ rest_words xs) (sym q))
+    ∙ ap (λ (m : Option Numeral). m ∷ rest_numerals new) (sym v)
 
--- A word goes on with a byte that does not separate.
-pub front_on : (b : ℕ) (bs : List ℕ) → separates b ≡ false → front separates (b ∷ bs) ≡ b ∷ front separates bs
-front_on b bs e = ap (λ t. cond t [] (b ∷ front separates bs)) e
+pub blanks_off : (old at : List ℕ) → at ≡ past_blanks old → SameLine old at
+blanks_off old at p = ap (behind line_end) p ∙ same_blanks old
 
-pub behind_on : (b : ℕ) (bs : List ℕ) → separates b ≡ false → behind separates (b ∷ bs) ≡ behind separates bs
-behind_on b bs e = ap (λ t. cond t (b ∷ bs) (behind separates bs)) e
+pub byte_off : (old at new : List ℕ) (b : ℕ) → at ≡ past_blanks old → separates b ≡ false → at ≡ b ∷ new → SameLine old new
+byte_off old at new b p e q = same_byte b new e ∙ ap (behind line_end) (sym q) ∙ blanks_off old at p
 
-pub front_end : (bs : List ℕ) → at_word_end bs ≡ true → front separates bs ≡ []
-front_end [] e = refl
-front_end (b ∷ bs) e = ap (λ t. cond t [] (b ∷ front separates bs)) e
+pub word_off : (old at new : List ℕ) → at ≡ past_blanks old → new ≡ behind separates at → SameLine old new
+word_off old at new p q = ap (behind line_end) q ∙ same_word at ∙ blanks_off old at p
 
-pub word_byte : (bs : List ℕ) (at : ℕ) → at < length bs → at_word_end (drop at bs) ≡ false → separates (get_or bs at 0) ≡ false
-word_byte bs at h e = sym (ap at_word_end (drop_more bs at 0 h)) ∙ e
+-- One word more is read.
+pub read_more : {A : Type 0} → (i : ℕ) (ws all rest more : List A) (w : A) → i < length ws → all ≡ take i ws ++ rest → rest ≡ w ∷ more → all ≡ take (i + 1) (set ws i w) ++ more
+read_more {A} i ws all rest more w h is e =
+    is ∙ ap (λ (xs : List A). take i ws ++ xs) e ∙ sym (ap (λ (xs : List A). xs ++ more) (take_more_set ws i w h) ∙ append_assoc (take i ws) (w ∷ []) more)
 
-pub word_more : (bs : List ℕ) (at : ℕ) → at < length bs → separates (get_or bs at 0) ≡ false → front separates (drop at bs) ≡ get_or bs at 0 ∷ front separates (drop (at + 1) bs)
-word_more bs at h e = ap (front separates) (drop_more bs at 0 h) ∙ front_on (get_or bs at 0) (drop (at + 1) bs) e
+-- N words were read: with what follows them, these are all of the words.
+module _ {A : Type 0} (n i : ℕ) (ws all rest : List A) (i_end : i ≤ n) (done : n ≤ i) (size : length ws ≡ n) (is : all ≡ take i ws ++ rest) where
+  whole : all ≡ ws ++ rest
+  whole = is ∙ ap (λ (xs : List A). xs ++ rest) (take_all i ws (omega arith))
+
+  pub all_read : rest ≡ [] → exactly n all ≡ Some ws
+  all_read e =
+      let w : all ≡ ws = whole ∙ ap (λ (xs : List A). ws ++ xs) e ∙ append-nil ws in
+      ap (exactly n) w ∙ ap (λ t. cond t (Some ws) None) (eq-eqb (length ws) n size)
+
+  pub more_left : (w : A) (more : List A) → rest ≡ w ∷ more → exactly n all ≡ None
+  more_left w more e =
+      let l : length all ≡ length ws + length rest = ap length whole ∙ length-append ws rest in
+      let m : length rest ≡ suc (length more) = ap length e in
+      ap (λ t. cond t (Some all) None) (ne_eqb (length all) n (λ z. omega arith))

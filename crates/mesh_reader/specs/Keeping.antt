@@ -3,8 +3,7 @@ use Rattle.std.specs.Prelude.{◌≡◌, ℕ, suc, ◌-◌, ◌<◌, ◌≤◌, 
 use Rattle.std.proofs.Common.{sym, ap, subst, ◌∙◌, append-nil, append_assoc, arith}
 use Rattle.mesh_stream.specs.declared.event.Event.{Event}
 use Rattle.mesh_stream.specs.Meaning.{Mark, unclosed, closed, outcome, Meaning, Port, open_for, shut, TakesText, Begins, Lawful}
-use Rattle.mesh_reader.specs.declared.content.LineContent.{LineContent}
-use Rattle.mesh_reader.specs.declared.scan.Scanned.{Scanned}
+use Rattle.mesh_reader.specs.declared.content.Line.{Line}
 use Rattle.mesh_reader.specs.Reading.{reading_from, and_on, at_end, in_time, after_line, unread}
 use Rattle.mesh_reader.specs.ReadingLaw.{reading_grows, reading_stops, reading_settles}
 
@@ -47,11 +46,11 @@ keeping_takes_text true kept = tt
 keeping_takes_text false kept = tt
 
 -- The line at the front takes up so many bytes and holds this; once it is taken, the rest of the text is read.
-pub record FrontLine (c : Bool) (place vertex : ℕ) (kept : List ℕ) (line : Scanned LineContent) : Type 0 where
-  pub some : 0 < line.at
-  pub inside : line.at ≤ length kept
-  pub reads : (t : List ℕ) (m : Mark) → keeping c place vertex kept t m ≡ and_on place vertex (in_time place line.found) (λ next. keeping c (suc place) next (drop line.at kept) t m)
-  pub leaves : unread (mark_at c) place vertex kept ≡ after_line (in_time place line.found) kept (drop line.at kept) (unread (mark_at c) (suc place) vertex (drop line.at kept))
+pub record FrontLine (c : Bool) (place vertex : ℕ) (kept : List ℕ) (line : Line) : Type 0 where
+  pub some : 0 < line.length
+  pub inside : line.length ≤ length kept
+  pub reads : (t : List ℕ) (m : Mark) → keeping c place vertex kept t m ≡ and_on place vertex (in_time place line.content) (λ next. keeping c (suc place) next (drop line.length kept) t m)
+  pub leaves : unread (mark_at c) place vertex kept ≡ after_line (in_time place line.content) kept (drop line.length kept) (unread (mark_at c) (suc place) vertex (drop line.length kept))
 
 -- There is no complete line: the reader stands as the text does, and keeps what it has.
 pub record NoLine (c : Bool) (place vertex : ℕ) (kept : List ℕ) : Type 0 where
@@ -59,6 +58,6 @@ pub record NoLine (c : Bool) (place vertex : ℕ) (kept : List ℕ) : Type 0 whe
   pub leaves : unread (mark_at c) place vertex kept ≡ kept
   pub short : length kept < 128
 
-abbrev pub Front : Bool → ℕ → ℕ → List ℕ → Option (Scanned LineContent) → Type 0
+abbrev pub Front : Bool → ℕ → ℕ → List ℕ → Option Line → Type 0
 Front c place vertex kept None = NoLine c place vertex kept
 Front c place vertex kept (Some line) = FrontLine c place vertex kept line

@@ -32,8 +32,13 @@ abbrev pub without_minus : List ℕ → List ℕ
 without_minus [] = []
 without_minus (b ∷ bs) = cond (b == 45) bs (b ∷ bs)
 
-abbrev pub numeral : List ℕ → Numeral
-numeral word = record { minus = has_minus word; magnitude = magnitude (without_minus word) }
+abbrev pub with_sign : Bool → Option ℕ → Option Numeral
+with_sign minus None = None
+with_sign minus (Some n) = Some (record { minus = minus; size = n })
+
+-- A numeral is an optional minus and 1 to 9 digits.
+abbrev pub numeral : List ℕ → Option Numeral
+numeral word = with_sign (has_minus word) (magnitude (without_minus word))
 
 abbrev pub in_range : {A : Type 0} → Bool → A → Result A Cause
 in_range true v = Ok v
@@ -43,19 +48,12 @@ abbrev pub signed : Bool → ℕ → ℤ
 signed true n = neg_ℤ (pos n)
 signed false n = pos n
 
--- A coordinate is an optional minus and 1 to 9 digits.
-abbrev pub coordinate_by : Bool → Option ℕ → Result ℤ Cause
-coordinate_by minus None = Err NotANumber
-coordinate_by minus (Some n) = in_range (coordinate (signed minus n)) (signed minus n)
+-- A coordinate is a numeral.
+abbrev pub coordinate_of : Option Numeral → Result ℤ Cause
+coordinate_of None = Err NotANumber
+coordinate_of (Some n) = in_range (coordinate (signed n.minus n.size)) (signed n.minus n.size)
 
-abbrev pub coordinate_of : Numeral → Result ℤ Cause
-coordinate_of n = coordinate_by n.minus n.magnitude
-
--- A vertex number is 1 to 9 digits without sign.
-abbrev pub vertex_by : Bool → Option ℕ → Result ℕ Cause
-vertex_by true n = Err NotANumber
-vertex_by false None = Err NotANumber
-vertex_by false (Some n) = in_range (vertex_number n) n
-
-abbrev pub vertex_of : Numeral → Result ℕ Cause
-vertex_of n = vertex_by n.minus n.magnitude
+-- A vertex number is one without sign.
+abbrev pub vertex_of : Option Numeral → Result ℕ Cause
+vertex_of None = Err NotANumber
+vertex_of (Some n) = cond n.minus (Err NotANumber) (in_range (vertex_number n.size) n.size)

@@ -16,20 +16,20 @@ abbrev pub kept : TextReader → List ℕ
 kept r = between r.start r.end r.bytes
 
 abbrev pub reader_means : TextReader → Meaning Event
-reader_means r = keeping r.closed r.line r.vertex (kept r)
+reader_means r = keeping r.closed r.next.line r.next.vertex (kept r)
 
 abbrev pub reader_port : TextReader → Port
 reader_port r = keeping_port r.closed (kept r)
 
 pub reader_lawful : (r : TextReader) → Lawful (reader_port r) (reader_means r)
-reader_lawful r = keeping_lawful r.closed r.line r.vertex (kept r)
+reader_lawful r = keeping_lawful r.closed r.next.line r.next.vertex (kept r)
 
 pub reader_takes_text : (r : TextReader) → TakesText (reader_port r)
 reader_takes_text r = keeping_takes_text r.closed (kept r)
 
 -- what it will keep after one next
 abbrev pub leaves : TextReader → List ℕ
-leaves r = unread (mark_at r.closed) r.line r.vertex (kept r)
+leaves r = unread (mark_at r.closed) r.next.line r.next.vertex (kept r)
 
 -- A line that holds no event was read and dropped.
 pub record Dropped (r s : TextReader) : Type 0 where
@@ -47,10 +47,9 @@ abbrev pub LineTaken : TextReader → Option (Result Event Standing) → TextRea
 LineTaken r None s = Dropped r s
 LineTaken r (Some a) s = Answered r a s
 
--- Only the bytes moved: the counts and whether it is closed are as they were.
+-- Only the bytes moved: the numbers of what is next and whether it is closed are as they were.
 pub record SameBut (r s : TextReader) : Type 0 where
-  pub line : s.line ≡ r.line
-  pub vertex : s.vertex ≡ r.vertex
+  pub next : s.next ≡ r.next
   pub closed : s.closed ≡ r.closed
 
 -- Refused with number 1 exactly where it is closed.

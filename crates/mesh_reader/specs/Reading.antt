@@ -11,8 +11,6 @@ use Rattle.mesh_stream.specs.Meaning.{Mark, unclosed, closed, Outcome, outcome, 
 use Rattle.mesh_reader.specs.declared.numeral.Numeral.{Numeral}
 use Rattle.mesh_reader.specs.declared.content.FirstWord.{FirstWord}
 use Rattle.mesh_reader.specs.declared.content.FirstWord.TheVariants.{Missing, Comment, Letter, Other}
-use Rattle.mesh_reader.specs.declared.content.LineContent.{LineContent}
-use Rattle.mesh_reader.specs.declared.content.LineContent.TheVariants.{Nothing, Gives, Wrong}
 use Rattle.mesh_reader.specs.Text.{pieces, some_bytes, words, line_end, lines}
 use Rattle.mesh_reader.specs.Numerals.{numeral, coordinate_of, vertex_of}
 
@@ -21,31 +19,17 @@ abbrev pub then : {A B : Type 0} → Result A Cause → (A → Result B Cause) �
 then (Ok v) next = next v
 then (Err c) next = Err c
 
--- exactly three
-abbrev pub three_of : {A : Type 0} → List A → Option (A × A × A)
-three_of [] = None
-three_of (a ∷ []) = None
-three_of (a ∷ (b ∷ [])) = None
-three_of (a ∷ (b ∷ (c ∷ []))) = Some (a, b, c)
-three_of (a ∷ (b ∷ (c ∷ (d ∷ more)))) = None
+-- all of a list, if it has just so many elements
+abbrev pub exactly : {A : Type 0} → ℕ → List A → Option (List A)
+exactly n xs = cond (length xs == n) (Some xs) None
 
-abbrev pub of_three : {A : Type 0} → (Numeral → Result A Cause) → (A → A → A → Event) → Option (Numeral × Numeral × Numeral) → Result Event Cause
-of_three read make None = Err WordCount
-of_three read make (Some (a, b, c)) = then (read a) λ i. then (read b) λ j. then (read c) λ k. Ok (make i j k)
+abbrev pub of_three : {A : Type 0} → (Option Numeral → Result A Cause) → (A → A → A → Event) → Option (List (Option Numeral)) → Result Event Cause
+of_three read make (Some (a ∷ (b ∷ (c ∷ [])))) = then (read a) λ i. then (read b) λ j. then (read c) λ k. Ok (make i j k)
+of_three read make _ = Err WordCount
 
--- exactly one
-abbrev pub one_of : {A : Type 0} → List A → Option A
-one_of [] = None
-one_of (a ∷ []) = Some a
-one_of (a ∷ (b ∷ more)) = None
-
-abbrev pub of_one : {A : Type 0} → (Numeral → Result A Cause) → (A → Event) → Option Numeral → Result Event Cause
-of_one read make None = Err WordCount
-of_one read make (Some a) = then (read a) λ i. Ok (make i)
-
-abbrev pub content_of : Result Event Cause → LineContent
-content_of (Ok e) = Gives e
-content_of (Err c) = Wrong c
+abbrev pub of_one : {A : Type 0} → (Option Numeral → Result A Cause) → (A → Event) → Option (List (Option Numeral)) → Result Event Cause
+of_one read make (Some (a ∷ [])) = then (read a) λ i. Ok (make i)
+of_one read make _ = Err WordCount
 
 -- A # is the byte 35.
 abbrev pub by_first_byte : Bool → ℕ → List ℕ → FirstWord
@@ -68,31 +52,35 @@ behind_first (w ∷ ws) = ws
 abbrev pub vertex_event : ℕ → ℕ → ℤ → ℤ → ℤ → Event
 vertex_event place vertex x y z = Vertex place vertex (record { x = x; y = y; z = z })
 
+-- What a line holds: no event, an event, or a fault.
+abbrev pub LineContent : Type 0
+LineContent = Result (Option Event) Cause
+
 -- The first word is one of the letters v, f and x, the bytes 118, 102 and 120, or starts with #. Behind v follow three
 -- coordinates, behind f three vertex numbers, behind x one.
-abbrev pub by_letter : ℕ → ℕ → ℕ → List Numeral → LineContent
+abbrev pub by_letter : ℕ → ℕ → ℕ → List (Option Numeral) → Result Event Cause
 by_letter place vertex b ns =
-    cond (b == 118) (content_of (of_three coordinate_of (vertex_event place vertex) (three_of ns)))
-    (cond (b == 102) (content_of (of_three vertex_of (Triangle place) (three_of ns)))
-    (cond (b == 120) (content_of (of_one vertex_of (Finalization place) (one_of ns)))
-    (Wrong UnknownWord)))
+    cond (b == 118) (of_three coordinate_of (vertex_event place vertex) (exactly 3 ns))
+    (cond (b == 102) (of_three vertex_of (Triangle place) (exactly 3 ns))
+    (cond (b == 120) (of_one vertex_of (Finalization place) (exactly 1 ns))
+    (Err UnknownWord)))
 
-abbrev pub by_kind : ℕ → ℕ → FirstWord → List Numeral → LineContent
-by_kind place vertex Missing ns = Nothing
-by_kind place vertex Comment ns = Nothing
-by_kind place vertex (Letter b) ns = by_letter place vertex b ns
-by_kind place vertex Other ns = Wrong UnknownWord
+abbrev pub by_kind : ℕ → ℕ → FirstWord → List (Option Numeral) → LineContent
+by_kind place vertex Missing ns = Ok None
+by_kind place vertex Comment ns = Ok None
+by_kind place vertex (Letter b) ns = then (by_letter place vertex b ns) λ e. Ok (Some e)
+by_kind place vertex Other ns = Err UnknownWord
 
 abbrev pub by_words : ℕ → ℕ → List (List ℕ) → LineContent
 by_words place vertex ws = by_kind place vertex (first_word ws) (map numeral (behind_first ws))
 
 -- A text has at most 1,000,000,000 lines.
 abbrev pub in_time : ℕ → LineContent → LineContent
-in_time place content = cond (nat_lt 1000000000 place) (Wrong TooManyLines) content
+in_time place content = cond (nat_lt 1000000000 place) (Err TooManyLines) content
 
--- What a line holds: no event, an event, or a fault. `place` is its number from 1, `vertex` the number of the next vertex.
+-- What a line holds, its number from 1 being `place`, and the number of the next vertex `vertex`.
 abbrev pub line_content : ℕ → ℕ → List ℕ → LineContent
-line_content place vertex line = in_time place (cond (nat_le 128 (length line)) (Wrong LineTooLong) (by_words place vertex (words line)))
+line_content place vertex line = in_time place (cond (nat_le 128 (length line)) (Err LineTooLong) (by_words place vertex (words line)))
 
 -- The v lines are numbered 1, 2, 3 and so on.
 abbrev pub vertex_after : ℕ → Event → ℕ
@@ -105,9 +93,9 @@ fault c place = Faulty (record { layer = Reader; cause = c; place = place })
 
 -- Line by line, until one is at fault.
 abbrev pub and_on : ℕ → ℕ → LineContent → (ℕ → Outcome Event) → Outcome Event
-and_on place vertex Nothing later = later vertex
-and_on place vertex (Gives e) later = prepend e (later (vertex_after vertex e))
-and_on place vertex (Wrong c) later = outcome [] (fault c place)
+and_on place vertex (Ok None) later = later vertex
+and_on place vertex (Ok (Some e)) later = prepend e (later (vertex_after vertex e))
+and_on place vertex (Err c) later = outcome [] (fault c place)
 
 abbrev pub read_lines : ℕ → ℕ → List (List ℕ) → Standing → Outcome Event
 read_lines place vertex [] end = outcome [] end
@@ -134,9 +122,9 @@ rejoined (p ∷ []) = p
 rejoined (p ∷ (q ∷ ps)) = p ++ (10 ∷ rejoined (q ∷ ps))
 
 abbrev pub after_line : LineContent → List ℕ → List ℕ → List ℕ → List ℕ
-after_line Nothing all behind later = later
-after_line (Gives e) all behind later = behind
-after_line (Wrong c) all behind later = all
+after_line (Ok None) all behind later = later
+after_line (Ok (Some e)) all behind later = behind
+after_line (Err c) all behind later = all
 
 abbrev pub unread_pieces : Mark → ℕ → ℕ → List (List ℕ) → List ℕ
 unread_pieces mark place vertex [] = []

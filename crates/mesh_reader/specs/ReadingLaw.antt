@@ -1,5 +1,5 @@
 -- What holds of every text: one that goes on gives more; once a line is at fault nothing changes it; closed, it is not waited for.
-use Rattle.std.specs.Prelude.{◌≡◌, ℕ, suc, Bool, true, false, cond, List, [], ◌∷◌, ◌++◌, length, nat_le, nat_lt, refl}
+use Rattle.std.specs.Prelude.{◌≡◌, ℕ, suc, Bool, true, false, cond, List, [], ◌∷◌, ◌++◌, length, Some, None, Ok, Err, nat_le, nat_lt, refl}
 use Rattle.std.proofs.Common.{sym, ap, subst, ◌∙◌, arith, length-append}
 use Rattle.std.proofs.lemmas.Bool.{both_ways, leb-true, le-leb}
 use Rattle.mesh_stream.specs.declared.event.Event.{Event}
@@ -8,10 +8,8 @@ use Rattle.mesh_stream.specs.declared.fault.Cause.TheVariants.{LineTooLong, TooM
 use Rattle.mesh_stream.specs.declared.stage.Standing.{Standing}
 use Rattle.mesh_stream.specs.declared.stage.Standing.TheVariants.{Waiting, Ended}
 use Rattle.mesh_stream.specs.Meaning.{Mark, unclosed, closed, Outcome, outcome, prepend, Begins, IsWaiting}
-use Rattle.mesh_reader.specs.declared.content.LineContent.{LineContent}
-use Rattle.mesh_reader.specs.declared.content.LineContent.TheVariants.{Nothing, Gives, Wrong}
 use Rattle.mesh_reader.specs.Text.{split, pieces, words, line_end, last_counts, lines_in, lines}
-use Rattle.mesh_reader.specs.Reading.{by_words, line_content, vertex_after, fault, and_on, read_lines, at_end, reading_from}
+use Rattle.mesh_reader.specs.Reading.{LineContent, by_words, line_content, vertex_after, fault, and_on, read_lines, at_end, reading_from}
 
 -- The pieces of a text that is joined of two: the last piece of the one goes on as the first of the other.
 abbrev pub SomePieces : List (List ℕ) → Type 0
@@ -53,11 +51,11 @@ abbrev pub long_cause : Bool → Cause
 long_cause true = TooManyLines
 long_cause false = LineTooLong
 
-pub long_wrong : (p n : ℕ) (l : List ℕ) → nat_le 128 (length l) ≡ true → line_content p n l ≡ Wrong (long_cause (nat_lt 1000000000 p))
+pub long_wrong : (p n : ℕ) (l : List ℕ) → nat_le 128 (length l) ≡ true → line_content p n l ≡ Err (long_cause (nat_lt 1000000000 p))
 long_wrong p n l h =
-    ap (λ t. cond (nat_lt 1000000000 p) (Wrong TooManyLines) (cond t (Wrong LineTooLong) (by_words p n (words l)))) h ∙ at (nat_lt 1000000000 p)
+    ap (λ t. cond (nat_lt 1000000000 p) (Err TooManyLines) (cond t (Err LineTooLong) (by_words p n (words l)))) h ∙ at (nat_lt 1000000000 p)
   where
-    at : (t : Bool) → cond t (Wrong TooManyLines) (Wrong LineTooLong) ≡ Wrong (long_cause t)
+    at : (t : Bool) → ◌≡◌ {A = LineContent} (cond t (Err TooManyLines) (Err LineTooLong)) (Err (long_cause t))
     at true = refl
     at false = refl
 
@@ -108,9 +106,9 @@ module _ (m : Mark) (end : Standing) where
     where
       go : (g : LineContent) → ((j : ℕ) → Begins (read_lines (suc p) j (lines_in unclosed (k ∷ ps)) Waiting).items (read_lines (suc p) j (lines_in m (joined (k ∷ ps) qs)) end).items)
           → Begins (and_on p n g (λ j. read_lines (suc p) j (lines_in unclosed (k ∷ ps)) Waiting)).items (and_on p n g (λ j. read_lines (suc p) j (lines_in m (joined (k ∷ ps) qs)) end)).items
-      go Nothing later = later n
-      go (Gives x) later = ((later (vertex_after n x)).0, ap (λ (xs : List Event). x ∷ xs) (later (vertex_after n x)).1)
-      go (Wrong c) later = ([], refl)
+      go (Ok None) later = later n
+      go (Ok (Some x)) later = ((later (vertex_after n x)).0, ap (λ (xs : List Event). x ∷ xs) (later (vertex_after n x)).1)
+      go (Err c) later = ([], refl)
 
   lines_stop : (ps qs : List (List ℕ)) (p n : ℕ) → SomePieces ps → (IsWaiting (read_lines p n (lines_in unclosed ps) Waiting).stands → ⊥) → read_lines p n (lines_in m (joined ps qs)) end ≡ read_lines p n (lines_in unclosed ps) Waiting
   lines_stop [] qs p n s w = absurd s
@@ -130,9 +128,9 @@ module _ (m : Mark) (end : Standing) where
       go : (h : LineContent) → (IsWaiting (and_on p n h (λ j. read_lines (suc p) j (lines_in unclosed (k ∷ ps)) Waiting)).stands → ⊥)
           → ((j : ℕ) → (IsWaiting (read_lines (suc p) j (lines_in unclosed (k ∷ ps)) Waiting).stands → ⊥) → read_lines (suc p) j (lines_in m (joined (k ∷ ps) qs)) end ≡ read_lines (suc p) j (lines_in unclosed (k ∷ ps)) Waiting)
           → and_on p n h (λ j. read_lines (suc p) j (lines_in m (joined (k ∷ ps) qs)) end) ≡ and_on p n h (λ j. read_lines (suc p) j (lines_in unclosed (k ∷ ps)) Waiting)
-      go Nothing w later = later n w
-      go (Gives x) w later = ap (prepend x) (later (vertex_after n x) w)
-      go (Wrong c) w later = refl
+      go (Ok None) w later = later n w
+      go (Ok (Some x)) w later = ap (prepend x) (later (vertex_after n x) w)
+      go (Err c) w later = refl
 
 -- The items of an open text begin those of every text that it begins.
 pub reading_grows : (p n : ℕ) (t u : List ℕ) (m : Mark) → Begins (reading_from p n t unclosed).items (reading_from p n (t ++ u) m).items
@@ -155,6 +153,6 @@ reading_settles p n t = never (lines closed t) p n
     never (l ∷ ls) p n w = go (line_content p n l) (λ j. never ls (suc p) j) w
       where
         go : (g : LineContent) → ((j : ℕ) → IsWaiting (read_lines (suc p) j ls Ended).stands → ⊥) → IsWaiting (and_on p n g (λ j. read_lines (suc p) j ls Ended)).stands → ⊥
-        go Nothing later w = later n w
-        go (Gives x) later w = later (vertex_after n x) w
-        go (Wrong c) later w = w
+        go (Ok None) later w = later n w
+        go (Ok (Some x)) later w = later (vertex_after n x) w
+        go (Err c) later w = w

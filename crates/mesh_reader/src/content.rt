@@ -12,10 +12,9 @@ pub(crate) enum FirstWord {
     Other,
 }
 
-// What a line holds.
+// A line at the front of a text: what it holds, which need not be an event, and how many bytes it takes up.
 #[derive(Clone, Copy)]
-pub(crate) enum LineContent {
-    Nothing,
-    Gives(Event),
-    Wrong(Cause),
+pub(crate) struct Line {
+    pub content: Result<Option<Event>, Cause>,
+    pub length: usize,
 }

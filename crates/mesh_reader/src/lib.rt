@@ -4,6 +4,7 @@
 mod content;
 pub mod examples;
 mod line;
+mod numbers;
 mod numeral;
 pub mod reader;
 mod scan;

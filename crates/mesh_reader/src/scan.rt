@@ -1,124 +1,31 @@
-// Going through a line from left to right, each byte looked at once. Only what stands on the line is looked at: the line's
-// end need not be known before.
-ghost use Rattle.std.specs.Prelude.{◌≡◌, ◌<◌, ◌≤◌, false, length, drop, ◌==◌, slice_index};
-ghost use Rattle.mesh_reader.specs.Text.{blank};
+ghost use Rattle.std.specs.Prelude.{◌≡◌, ◌≤◌, ◌==◌, ℕ, Bool};
+ghost use Rattle.mesh_reader.specs.Text.{blank, line_end};
 ghost use Rattle.mesh_reader.specs.Numerals.{digit, magnitude, numeral};
-ghost use Rattle.mesh_reader.specs.Scanning.{separates, front, behind, at_word_end, rest_words, stop_of_line, Within, Next, leading};
+ghost use Rattle.mesh_reader.specs.Reading.{exactly};
+ghost use Rattle.mesh_reader.specs.Scanning.{separates, in_word, front, behind, past_blanks, at_word_end, rest_numerals, SameLine, IsTest, NextIf, NextMinus, Next, leading};
 
 use super::numeral::Numeral;
 
-// What was found, and how far the line is read then.
+// A number has no more digits.
+const MOST_DIGITS: usize = 9;
+
+// What is left of a line as it is gone through from left to right, each byte looked at once. Behind it there may be more of the
+// text, which is not looked at: the line's end need not be known before.
 #[derive(Clone, Copy)]
-pub(crate) struct Scanned<T> {
-    pub found: T,
-    pub at: usize,
+pub(crate) struct Rest<'a> {
+    pub bytes: &'a [u8],
 }
 
 fn is_blank(byte: u8) -> bool
     ensures { result ≡ blank byte }
 {
-    byte == b' ' || byte == b'\t' || byte == b'\r'
+    matches!(byte, b' ' | b'\t' | b'\r')
 }
 
-fn is_separator(byte: u8) -> bool
-    ensures { result ≡ separates byte }
+fn is_line_end(byte: u8) -> bool
+    ensures { result ≡ line_end byte }
 {
-    is_blank(byte) || byte == b'\n'
-}
-
-// Whether no word goes on here.
-pub(crate) fn at_word_end(bytes: &[u8], at: usize) -> bool
-    ensures word { result ≡ at_word_end (drop at bytes.now) }
-    ensures inside { result ≡ false → at < length bytes.now }
-{
-    at >= bytes.len() || is_separator(bytes[at])
-}
-
-// Past the blanks.
-pub(crate) fn skip_blanks(bytes: &[u8], from: usize) -> usize
-    requires { from ≤ length bytes.now }
-    ensures within { Within bytes.now from result }
-    ensures words { rest_words bytes.now result ≡ rest_words bytes.now from }
-    ensures stops { result < length bytes.now → blank (slice_index bytes.now result) ≡ false }
-{
-    let mut at = from;
-    while at < bytes.len() && is_blank(bytes[at]) {
-        at += 1;
-    }
-    at
-}
-
-// Past the word that goes on here.
-fn skip_word(bytes: &[u8], from: usize) -> usize
-    requires { from ≤ length bytes.now }
-    ensures within { Within bytes.now from result }
-    ensures after { drop result bytes.now ≡ behind separates (drop from bytes.now) }
-{
-    let mut at = from;
-    while at < bytes.len() && !is_separator(bytes[at]) {
-        at += 1;
-    }
-    at
-}
-
-// Where the line ends: at its line end, or behind the last byte where it has none.
-pub(crate) fn line_stop(bytes: &[u8], from: usize) -> usize
-    requires { from ≤ length bytes.now }
-    ensures { result ≡ stop_of_line bytes.now from }
-{
-    let mut at = from;
-    while at < bytes.len() && bytes[at] != b'\n' {
-        at += 1;
-    }
-    at
-}
-
-fn is_digit(byte: u8) -> bool
-    ensures { result ≡ digit byte }
-{
-    byte >= b'0' && byte <= b'9'
-}
-
-// The number that the next digits say, nine of them at the most.
-fn leading_digits(bytes: &[u8], from: usize) -> Scanned<u32>
-    requires { from ≤ length bytes.now }
-    ensures within { Within bytes.now from result.at }
-    ensures digits { leading 9 0 (drop from bytes.now) ≡ (result.found, drop result.at bytes.now) }
-{
-    let mut at = from;
-    let mut value: u32 = 0;
-    let mut left: u32 = 9;
-    while left > 0 && at < bytes.len() && is_digit(bytes[at]) {
-        value = 10 * value + (bytes[at] - b'0') as u32;
-        at += 1;
-        left -= 1;
-    }
-    Scanned { found: value, at }
-}
-
-// What the digits of the word that goes on here say, if it has 1 to 9 digits and nothing else.
-fn magnitude_at(bytes: &[u8], from: usize) -> Scanned<Option<u32>>
-    requires { from ≤ length bytes.now }
-    ensures within { Within bytes.now from result.at }
-    ensures after { drop result.at bytes.now ≡ behind separates (drop from bytes.now) }
-    ensures value { result.found ≡ magnitude (front separates (drop from bytes.now)) }
-{
-    let digits = leading_digits(bytes, from);
-    if !at_word_end(bytes, digits.at) {
-        return Scanned {
-            found: None,
-            at: skip_word(bytes, digits.at),
-        };
-    }
-    let found = if from < digits.at {
-        Some(digits.found)
-    } else {
-        None
-    };
-    Scanned {
-        found,
-        at: digits.at,
-    }
+    byte == b'\n'
 }
 
 fn is_minus(byte: u8) -> bool
@@ -127,37 +34,160 @@ fn is_minus(byte: u8) -> bool
     byte == b'-'
 }
 
-// The word that begins here, as a numeral.
-fn numeral_at(bytes: &[u8], from: usize) -> Scanned<Numeral>
-    requires { (at_word_end (drop from bytes.now) ≡ false) × (from < length bytes.now) }
-    ensures within { Within bytes.now from result.at }
-    ensures after { drop result.at bytes.now ≡ behind separates (drop from bytes.now) }
-    ensures value { result.found ≡ numeral (front separates (drop from bytes.now)) }
+fn is_separator(byte: u8) -> bool
+    ensures { result ≡ separates byte }
 {
-    let minus = is_minus(bytes[from]);
-    let size = magnitude_at(bytes, if minus { from + 1 } else { from });
-    Scanned {
-        found: Numeral {
-            minus,
-            magnitude: size.found,
-        },
-        at: size.at,
-    }
+    is_blank(byte) || is_line_end(byte)
 }
 
-// The next word of the line as a numeral, if there is one.
-pub(crate) fn next_numeral(bytes: &[u8], from: usize) -> Scanned<Option<Numeral>>
-    requires { from ≤ length bytes.now }
-    ensures within { Within bytes.now from result.at }
-    ensures next { Next bytes.now from result.found result.at }
-{
-    let at = skip_blanks(bytes, from);
-    if at_word_end(bytes, at) {
-        return Scanned { found: None, at };
+impl Rest<'_> {
+    // Past all before the next byte of this kind.
+    fn skip_to<F: Fn(u8) -> bool>(&mut self, stops: F)
+        requires { F.IsAlwaysCallable stops }
+        ensures { (kind : ℕ → Bool) → IsTest (F.post stops) kind → self.new.bytes.now ≡ behind kind self.old.bytes.now }
+    {
+        while let [byte, after @ ..] = self.bytes
+            && !stops(*byte)
+        {
+            self.bytes = after;
+        }
     }
-    let word = numeral_at(bytes, at);
-    Scanned {
-        found: Some(word.found),
-        at: word.at,
+
+    pub(crate) fn skip_blanks(&mut self)
+        ensures { self.new.bytes.now ≡ past_blanks self.old.bytes.now }
+    {
+        self.skip_to(|byte| !is_blank(byte));
+    }
+
+    // Past the word that goes on here.
+    fn skip_word(&mut self)
+        ensures { self.new.bytes.now ≡ behind separates self.old.bytes.now }
+    {
+        self.skip_to(is_separator);
+    }
+
+    // To the line end, or behind the last byte where there is none.
+    pub(crate) fn skip_line(&mut self)
+        ensures { self.new.bytes.now ≡ behind line_end self.old.bytes.now }
+    {
+        self.skip_to(is_line_end);
+    }
+
+    // Whether no word goes on here.
+    pub(crate) fn at_word_end(&self) -> bool
+        ensures { result ≡ at_word_end self.now.bytes.now }
+    {
+        match self.bytes {
+            [] => true,
+            [byte, ..] => is_separator(*byte),
+        }
+    }
+
+    // The next byte, if it is of this kind.
+    fn next_if<F: Fn(u8) -> bool>(&mut self, is_wanted: F) -> Option<u8>
+        requires { F.IsAlwaysCallable is_wanted }
+        ensures { (kind : ℕ → Bool) → IsTest (F.post is_wanted) kind → NextIf kind self.old.bytes.now result self.new.bytes.now }
+    {
+        match self.bytes {
+            [byte, after @ ..] if is_wanted(*byte) => {
+                self.bytes = after;
+                Some(*byte)
+            }
+            _ => None,
+        }
+    }
+
+    // The next byte of the word that goes on here.
+    pub(crate) fn next_in_word(&mut self) -> Option<u8>
+        ensures { NextIf in_word self.old.bytes.now result self.new.bytes.now }
+    {
+        self.next_if(|byte| !is_separator(byte))
+    }
+
+    fn next_digit(&mut self) -> Option<u8>
+        ensures { NextIf digit self.old.bytes.now result self.new.bytes.now }
+    {
+        self.next_if(|byte| byte.is_ascii_digit())
+    }
+
+    // Whether a minus is next, which is then passed.
+    fn next_minus(&mut self) -> bool
+        ensures { NextMinus self.old.bytes.now result self.new.bytes.now }
+    {
+        self.next_if(is_minus).is_some()
+    }
+
+    // The number that the next digits say, so many of them at the most.
+    fn digits(&mut self, most: usize) -> u32
+        requires { most ≤ 9 }
+        ensures { leading most 0 self.old.bytes.now ≡ (result, self.new.bytes.now) }
+    {
+        let mut value = 0;
+        for _ in 0..most {
+            let Some(digit) = self.next_digit() else {
+                break;
+            };
+            value = 10 * value + u32::from(digit - b'0');
+        }
+        value
+    }
+
+    fn digits_of_word(&mut self) -> u32
+        ensures { leading 9 0 self.old.bytes.now ≡ (result, self.new.bytes.now) }
+    {
+        self.digits(MOST_DIGITS)
+    }
+
+    // What the digits of the word that goes on here say, if it has 1 to 9 digits and nothing else.
+    fn magnitude(&mut self) -> Option<u32>
+        ensures after { self.new.bytes.now ≡ behind separates self.old.bytes.now }
+        ensures value { result ≡ magnitude (front separates self.old.bytes.now) }
+    {
+        if self.at_word_end() {
+            return None;
+        }
+        let value = self.digits_of_word();
+        if self.at_word_end() {
+            return Some(value);
+        }
+        self.skip_word();
+        None
+    }
+
+    // The word that begins here, as a numeral if it is one.
+    fn numeral(&mut self) -> Option<Numeral>
+        ensures after { self.new.bytes.now ≡ behind separates self.old.bytes.now }
+        ensures value { result ≡ numeral (front separates self.old.bytes.now) }
+    {
+        let minus = self.next_minus();
+        let size = self.magnitude()?;
+        Some(Numeral { minus, size })
+    }
+
+    // The next word of the line, if there is one: as a numeral, if it is one.
+    fn next_word(&mut self) -> Option<Option<Numeral>>
+        ensures same { SameLine self.old.bytes.now self.new.bytes.now }
+        ensures next { Next self.old.bytes.now result self.new.bytes.now }
+    {
+        self.skip_blanks();
+        if self.at_word_end() {
+            return None;
+        }
+        Some(self.numeral())
+    }
+
+    // The rest of the line as N words, if it has just so many.
+    pub(crate) fn exactly<const N: usize>(&mut self) -> Option<[Option<Numeral>; N]>
+        ensures same { SameLine self.old.bytes.now self.new.bytes.now }
+        ensures words { result ≡ exactly N (rest_numerals self.old.bytes.now) }
+    {
+        let mut words = [None; N];
+        for word in &mut words {
+            *word = self.next_word()?;
+        }
+        match self.next_word() {
+            None => Some(words),
+            Some(_) => None,
+        }
     }
 }

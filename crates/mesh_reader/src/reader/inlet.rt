@@ -3,7 +3,6 @@ ghost use Rattle.mesh_reader.specs.Readers.{kept, leaves, reader_means, reader_p
 ghost use Rattle.mesh_stream.specs.Calls.{Nexted, Fed, Closed};
 
 use super::{CAPACITY, TextReader};
-use crate::content::LineContent;
 use crate::line::{front_line, in_time};
 use mesh_stream::event::Event;
 use mesh_stream::fault::{Fault, LayerName, Refusal};
@@ -14,38 +13,32 @@ impl TextReader {
     fn take_line(&mut self) -> Option<Result<Event, Standing>>
         ensures { LineTaken self.old result self.new }
     {
-        let Some(line) = front_line(
-            &self.bytes[self.start..self.end],
-            self.closed,
-            self.line,
-            self.vertex,
-        ) else {
+        let Some(line) = front_line(&self.bytes[self.start..self.end], self.closed, self.next)
+        else {
             return Some(Err(if self.closed {
                 Standing::Ended
             } else {
                 Standing::Waiting
             }));
         };
-        match in_time(self.line, line.found) {
-            LineContent::Wrong(cause) => {
+        // The last two arms are apart, since one arm that maps the event reads a text more slowly.
+        match in_time(self.next.line, line.content) {
+            Err(cause) => {
                 let fault = Fault {
                     layer: LayerName::Reader,
                     cause,
-                    place: self.line,
+                    place: self.next.line,
                 };
                 Some(Err(Standing::Faulty(fault)))
             }
-            LineContent::Nothing => {
-                self.start += line.at;
-                self.line += 1;
+            Ok(None) => {
+                self.start += line.length;
+                self.next.line += 1;
                 None
             }
-            LineContent::Gives(event) => {
-                self.start += line.at;
-                self.line += 1;
-                if let Event::Vertex { .. } = event {
-                    self.vertex += 1;
-                }
+            Ok(Some(event)) => {
+                self.start += line.length;
+                self.next.pass(&event);
                 Some(Ok(event))
             }
         }

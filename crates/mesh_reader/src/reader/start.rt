@@ -4,6 +4,7 @@ ghost use Rattle.mesh_reader.specs.Reading.{reading};
 ghost use Rattle.mesh_reader.specs.contracts.reader.inlet.TextReaderStage.TheImpl.{ghosts as reads};
 
 use super::{CAPACITY, TextReader};
+use crate::numbers::Numbers;
 
 impl TextReader {
     // A reader before the first line, open and with all of its room.
@@ -15,8 +16,7 @@ impl TextReader {
             bytes: [0; CAPACITY],
             start: 0,
             end: 0,
-            line: 1,
-            vertex: 1,
+            next: Numbers { line: 1, vertex: 1 },
             closed: false,
         }
     }

@@ -3,8 +3,8 @@ use Rattle.mesh_reader.proofs.FrontLines.{Looked, front_complete, front_long, fr
 use Rattle.mesh_reader.proofs.line.front_line.Goals as goal
 use Rattle.mesh_reader.proofs.line.front_line.Goals.{After-read_line-line}
 
-looked : (c : After-read_line-line) → Looked c.args.place c.args.number c.args.kept.now c.min-length.result c.read_line-line.result.found c.read_line-line.result.at
-looked c = let e = c.read_line-line.ensures in record { sized = c.min-length.ensures; content = e.content; stop = e.stop }
+looked : (c : After-read_line-line) → Looked c.args.next.line c.args.next.vertex c.args.kept.now c.min-length.result c.read_line-line.result.content c.read_line-line.result.length
+looked c = let e = c.read_line-line.ensures in record { sized = c.min-length.ensures; content = e.content; stop = e.length }
 
 pub returns-then-line-length : goal.returns-then-line-length
 returns-then-line-length c = front_complete c.args.closed _ _ _ _ _ _ (looked (goal.at.returns-then-line-length c).After-read_line-line) c.if-line-length.true

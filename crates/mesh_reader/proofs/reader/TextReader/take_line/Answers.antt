@@ -1,18 +1,12 @@
-use Rattle.std.proofs.Common.{sym, refl, ap, ◌∙◌, add-one}
-use Rattle.mesh_reader.specs.Reading.{vertex_after}
-use Rattle.mesh_reader.proofs.LinesTaken.{dropped, handed_over, not_counted}
+use Rattle.std.proofs.Common.{Ok, refl, sym, ap, ◌∙◌}
+use Rattle.mesh_reader.proofs.LinesTaken.{dropped, handed_over}
 use Rattle.mesh_reader.proofs.reader.TextReader.take_line.Goals as goal
 
-pub returns-in-Nothing : goal.returns-in-Nothing
-returns-in-Nothing c =
-    dropped c.args.self.now _ c.in-Some.line (record { bytes = refl; start = refl; end = refl; line = refl; closed = refl }) c.in-Some.ensures (sym c.in-Nothing.ensures) refl
+pub returns-in-Ok-None : goal.returns-in-Ok-None
+returns-in-Ok-None c =
+    dropped c.args.self.now _ c.in-Some.line (record { bytes = refl; start = refl; end = refl; line = refl; closed = refl }) c.in-Some.ensures (sym c.in-Ok-None.ensures ∙ ap Ok c.in-Ok-None.field-0-is) refl
 
-pub returns-in-Vertex : goal.returns-in-Vertex
-returns-in-Vertex c =
-    handed_over c.args.self.now _ c.in-Some.line (record { bytes = refl; start = refl; end = refl; line = refl; closed = refl }) c.in-Some.ensures c.in-Gives.event (sym c.in-Gives.ensures)
-    (add-one c.args.self.now.vertex ∙ sym (ap (vertex_after c.args.self.now.vertex) c.in-Vertex.is))
-
-pub returns-in_default-event : goal.returns-in_default-event
-returns-in_default-event c =
-    handed_over c.args.self.now _ c.in-Some.line (record { bytes = refl; start = refl; end = refl; line = refl; closed = refl }) c.in-Some.ensures c.in-Gives.event (sym c.in-Gives.ensures)
-    (sym (not_counted c.args.self.now.vertex c.in-Gives.event c.in_default-event.not-Vertex))
+pub returns-in-Ok-Some : goal.returns-in-Ok-Some
+returns-in-Ok-Some c =
+    handed_over c.args.self.now _ c.in-Some.line (record { bytes = refl; start = refl; end = refl; line = c.pass.ensures.line; closed = refl }) c.in-Some.ensures c.in-Ok-Some.event
+    (sym c.in-Ok-Some.ensures ∙ ap Ok c.in-Ok-Some.field-0-is) c.pass.ensures.vertex

@@ -1,0 +1,26 @@
+use Rattle.std.proofs.Common.{sym, ◌∙◌, arith, length-set}
+use Rattle.mesh_reader.specs.Scanning.{rest_numerals}
+use Rattle.mesh_reader.proofs.Words.{read_more, all_read, more_left}
+use Rattle.mesh_reader.proofs.scan.Rest.exactly.Goals as goal
+
+pub loop-word-preserved : goal.loop-word-preserved
+loop-word-preserved g c =
+    let i = c.loop-word.invariant in
+    let e = c.in_ok-word.ensures in
+    let test = c.loop-word-test.true in
+    let word = c.in_ok-word.field-0 in
+    record {
+      same = e.same ∙ i.same;
+      size = length-set c.loop-word.word-items c.loop-word.word-index word ∙ i.size;
+      read = read_more c.loop-word.word-index c.loop-word.word-items (rest_numerals c.args.self.now.bytes.now) (rest_numerals c.loop-word.self.bytes.now) (rest_numerals c.next_word.new.self.bytes.now) word (omega arith) i.read e.next;
+    }
+
+pub returns-in-None-clause-words : goal.returns-in-None-clause-words
+returns-in-None-clause-words g c =
+    let i = c.loop-word.invariant in
+    sym (all_read g.row.N c.loop-word.word-index c.loop-word.word-items (rest_numerals c.args.self.now.bytes.now) (rest_numerals c.loop-word.self.bytes.now) c.loop-word.auto.word-index-end c.loop-word-test.false i.size i.read c.in-None.ensures.next)
+
+pub returns-in-Some-clause-words : goal.returns-in-Some-clause-words
+returns-in-Some-clause-words g c =
+    let i = c.loop-word.invariant in
+    sym (more_left g.row.N c.loop-word.word-index c.loop-word.word-items (rest_numerals c.args.self.now.bytes.now) (rest_numerals c.loop-word.self.bytes.now) c.loop-word.auto.word-index-end c.loop-word-test.false i.size i.read c.in-Some.field-0 (rest_numerals c.next_word-2.new.self.bytes.now) c.in-Some.ensures.next)
