@@ -43,9 +43,10 @@ pub record Answered (r : TextReader) (a : Result Event Standing) (s : TextReader
   pub by_rule : Nexted (reader_port r) (reader_means r) a (reader_port s) (reader_means s)
   pub left : kept s ≡ leaves r
 
-abbrev pub LineTaken : TextReader → Option (Result Event Standing) → TextReader → Type 0
-LineTaken r None s = Dropped r s
-LineTaken r (Some a) s = Answered r a s
+abbrev pub LineTaken : TextReader → Result (Option Event) Standing → TextReader → Type 0
+LineTaken r (Ok None) s = Dropped r s
+LineTaken r (Ok (Some e)) s = Answered r (Ok e) s
+LineTaken r (Err x) s = Answered r (Err x) s
 
 -- Only the bytes moved: the numbers of what is next and whether it is closed are as they were.
 pub record SameBut (r s : TextReader) : Type 0 where

@@ -9,17 +9,18 @@ use mesh_stream::fault::{Fault, LayerName, Refusal};
 use mesh_stream::stage::{Inlet, Stage, Standing};
 
 impl TextReader {
-    // Reads the line at the front, and drops it if it is complete and not at fault. None where it held no event.
-    fn take_line(&mut self) -> Option<Result<Event, Standing>>
+    // Reads the line at the front and drops it, or answers how the reader stands if the line is incomplete or at fault. None
+    // where it held no event.
+    fn take_line(&mut self) -> Result<Option<Event>, Standing>
         ensures { LineTaken self.old result self.new }
     {
         let Some(line) = front_line(&self.bytes[self.start..self.end], self.closed, self.next)
         else {
-            return Some(Err(if self.closed {
+            return Err(if self.closed {
                 Standing::Ended
             } else {
                 Standing::Waiting
-            }));
+            });
         };
         // The last two arms are apart, since one arm that maps the event reads a text more slowly.
         match in_time(self.next.line, line.content) {
@@ -29,17 +30,17 @@ impl TextReader {
                     cause,
                     place: self.next.line,
                 };
-                Some(Err(Standing::Faulty(fault)))
+                Err(Standing::Faulty(fault))
             }
             Ok(None) => {
                 self.start += line.length;
                 self.next.line += 1;
-                None
+                Ok(None)
             }
             Ok(Some(event)) => {
                 self.start += line.length;
                 self.next.pass(&event);
-                Some(Ok(event))
+                Ok(Some(event))
             }
         }
     }
@@ -105,8 +106,8 @@ impl Stage for TextReader {
         ensures left { kept self.new ≡ leaves self.old }
     {
         loop {
-            if let Some(answer) = self.take_line() {
-                return answer;
+            if let Some(event) = self.take_line()? {
+                return Ok(event);
             }
         }
     }
