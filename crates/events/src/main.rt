@@ -11,7 +11,8 @@ use mesh_stream::stage::{Inlet, Stage, Standing};
 use std::io::{BufWriter, Read, Write};
 use std::{env, io};
 
-// Hands the events that the stage has now to the listing, and answers how the stage stands then.
+// Hands the events that the stage has now to the listing, and answers how the stage stands then. Each program drains its stage by
+// itself: a loop for all would be public, and would have to require of a closure that it may be called.
 fn list_events<S: Stage<Item = Event>, W: Write>(
     stage: &mut S,
     listing: &mut Listing<W>,

@@ -1,7 +1,7 @@
 -- A window that knows a list of accepted events judges as the list does, and knows the list with one event more.
 use Rattle.std.proofs.Common.{◌≡◌, ℕ, zero, suc, ◌+◌, ◌-◌, ◌<◌, ◌≤◌, min, max, Bool, true, false, cond, not, ◌&&◌, ◌||◌, eqb, ltb, leb, ◌⊎◌, List, [], ◌∷◌, ◌++◌, length, Some, None, filter, Option, sym, refl, ap, ◌∙◌, subst, inl, inr, append_assoc, append-nil, arith, length-append}
 use Rattle.std.proofs.lemmas.Option.{none-some}
-use Rattle.std.proofs.lemmas.Bool.{both_ways, ltb-true, lt-ltb, ltb-false, le-ltb, leb-true, leb-false, and_parts, eqb-true, eq-eqb, or_cases, or_right, or_parts, not-true, false_from_ne_true}
+use Rattle.std.proofs.lemmas.Bool.{both_ways, ltb-true, lt-ltb, ltb-false, le-ltb, leb-true, leb-false, and_parts, eqb-true, eq-eqb, or_cases, or_right, or_parts, false_from_ne_true}
 use Rattle.std.proofs.lemmas.List.Folds.{list_any-append}
 use Rattle.mesh_stream.specs.declared.event.Point.{Point}
 use Rattle.mesh_stream.specs.declared.event.Event.{Event}

@@ -19,6 +19,7 @@ const LONG_LINE: usize = 128;
 
 const MOST_LINES: u32 = 1_000_000_000;
 
+// Of a line's three kinds each reads its words by itself: what they share is a `?` a word.
 fn vertex(next: Numbers, words: Option<[Option<Numeral>; 3]>) -> Result<Event, Cause>
     ensures { result ≡ of_three coordinate_of (vertex_event next.line next.vertex) words }
 {

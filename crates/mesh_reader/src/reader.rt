@@ -16,6 +16,7 @@ pub struct TextReader {
     start: usize,
     end: usize,
     next: Numbers,
+    // a flag, since feed and close answer at run time whether it is closed: types for both would need a third that is either
     closed: bool,
     ghost size: { length bytes ≡ 4096 },
     ghost ordered: { start ≤ end },

@@ -20,7 +20,7 @@ pub enum Cause {
 }
 
 impl Cause {
-    // The number under which the cause is reported.
+    // The number under which the cause is reported: the discriminant, which only `as` reads.
     pub fn number(self) -> u8
         ensures { result ≡ cause_number self }
     {
@@ -37,7 +37,7 @@ pub enum Refusal {
 }
 
 impl Refusal {
-    // The number under which the refusal is reported.
+    // The number under which the refusal is reported: the discriminant, which only `as` reads.
     pub fn number(self) -> u8
         ensures { result ≡ refusal_number self }
     {

@@ -20,7 +20,8 @@ pub(crate) enum Probe<const N: usize> {
     Exhausted,
 }
 
-// Slots round a ring. A key is searched from its home on, slot by slot.
+// Slots round a ring. A key is searched from its home on, slot by slot. An array of its own, since a table's memory is fixed and
+// lies in no heap.
 #[derive(Drop)]
 pub(crate) struct Ring<V, const N: usize> {
     pub(crate) array: [Option<Record<V>>; N],
@@ -51,7 +52,8 @@ impl<V: Copy, const N: usize> Ring<V, N> {
         self.array[i.number] = slot;
     }
 
-    // Where a search for the key begins. The high bits of the spread decide, since they depend on every bit of the key.
+    // Where a search for the key begins. The high bits of the spread decide, since they depend on every bit of the key. With `as`,
+    // since the library's conversions from u32 to usize may fail.
     fn home(&self, key: Key) -> SlotNumber<N>
         ensures { result.number ≡ home_slot N key }
     {
@@ -60,7 +62,7 @@ impl<V: Copy, const N: usize> Ring<V, N> {
         }
     }
 
-    // Goes from the key's home to the key, or else to the first empty slot.
+    // Goes from the key's home to the key, or else to the first empty slot. What is counted are the steps: the ring knows the slot.
     pub(crate) fn probe(&self, key: Key) -> Probe<N>
         ensures { Probed N self.now.array key result }
     {

@@ -1,4 +1,5 @@
-// Readers of given texts, and what they are expected to hand over.
+// Readers of given texts, and what they are expected to hand over. Other crates' tests have makers and checks of their own, since
+// tests are not seen outside their crate, and only tests may stop a program.
 use mesh_reader::reader::TextReader;
 use mesh_stream::event::{Event, Point};
 use mesh_stream::fault::{Cause, Fault, LayerName};
