@@ -53,8 +53,10 @@ fn runs_up_to_the_end(rt: HostRuntime) {
     check_full_runs(&rt, &mut report, &mut stage, &[0, 1, 2]);
     let front = Totals {
         vertices: 3,
+        triangles: 0,
+        finalized: 0,
         width: 3,
-        ..Totals::default()
+        area: 0,
     };
     check_report(&rt, &report, front, Standing::Waiting);
     check_full_runs(&rt, &mut report, &mut stage, &[3, 0, 4]);
@@ -102,8 +104,10 @@ fn a_fault(rt: HostRuntime) {
     assert_eq!(rt; report.run(&mut stage, 4), 1);
     let totals = Totals {
         vertices: 1,
+        triangles: 0,
+        finalized: 0,
         width: 1,
-        ..Totals::default()
+        area: 0,
     };
     check_report(&rt, &report, totals, faulty(Cause::NotLive, 2));
     check_takes_nothing(&rt, &mut report);

@@ -4,6 +4,14 @@ use mesh_stream::stage::Standing;
 use std::process::Abort;
 use std::test::Fail;
 
+const NOTHING: Totals = Totals {
+    vertices: 0,
+    triangles: 0,
+    finalized: 0,
+    width: 0,
+    area: 0,
+};
+
 const NOTHING_TEXT: &[u8] = b"vertices 0\ntriangles 0\nfinalized 0\nwidth 0\narea 0\nend ok\n";
 
 // The text stands in front of the buffer, which held points, and every point behind it is kept.
@@ -23,7 +31,7 @@ fn check_spelled(
 
 // A buffer of points is refused and untouched.
 fn check_refused(rt: &impl Abort, buffer: &mut [u8]) {
-    let answer = Totals::default().spell(Standing::Ended, buffer);
+    let answer = NOTHING.spell(Standing::Ended, buffer);
     assert_eq!(rt; answer, Err(Refusal::BufferTooSmall));
     check_points(rt, buffer);
 }
@@ -44,14 +52,14 @@ fn small_buffers(rt: HostRuntime) {
 fn large_buffers(rt: HostRuntime) -> Result<(), Fail> {
     check_spelled(
         &rt,
-        Totals::default(),
+        NOTHING,
         Standing::Ended,
         &mut [b'.'; 256],
         NOTHING_TEXT,
     )?;
     check_spelled(
         &rt,
-        Totals::default(),
+        NOTHING,
         Standing::Ended,
         &mut [b'.'; 300],
         NOTHING_TEXT,
