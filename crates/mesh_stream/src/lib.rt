@@ -3,6 +3,7 @@
 
 pub mod event;
 pub mod fault;
+pub mod range;
 pub mod runs;
 pub mod show;
 pub mod stage;

@@ -1,8 +1,9 @@
 ghost use Rattle.std.specs.Prelude.{◌≡◌};
+ghost use Rattle.mesh_stream.specs.declared.stage.Standing.TheVariants.{Faulty};
 ghost use Rattle.mesh_stream.specs.Meaning.{Meaning, Port, Lawful, TakesText, room};
 ghost use Rattle.mesh_stream.specs.Calls.{Nexted, Fed, Closed};
 
-use crate::fault::{Fault, Refusal};
+use crate::fault::{Cause, Fault, LayerName, Refusal};
 
 // How a stage stands once it has handed over all that it has: it waits for more text, or it ended, or it is at fault.
 #[derive(Clone, Copy, PartialEq, Eq, Debug)]
@@ -10,6 +11,19 @@ pub enum Standing {
     Waiting,
     Ended,
     Faulty(Fault),
+}
+
+impl Standing {
+    // At fault, for what this layer names.
+    pub fn faulty(layer: LayerName, cause: Cause, place: u32) -> Standing
+        ensures { result ≡ Faulty (record { layer = layer; cause = cause; place = place }) }
+    {
+        Standing::Faulty(Fault {
+            layer,
+            cause,
+            place,
+        })
+    }
 }
 
 // A stage hands over items of one kind, one by one.
