@@ -14,8 +14,8 @@ use std::{env, io};
 // How much of the text is read at a time.
 const BUFFER: usize = 4096;
 
-// Hands the events that the stage has now to the listing, and answers how the stage stands then. Each program drains its stage by
-// itself: a loop for all would be public, and would have to require of a closure that it may be called.
+// Hands the events that the stage has now to the listing, and answers how the stage stands then: the loop over `next`, short enough
+// to stand in each program.
 fn list_events<S: Stage<Item = Event>, W: Write>(
     stage: &mut S,
     listing: &mut Listing<W>,
@@ -30,7 +30,7 @@ fn list_events<S: Stage<Item = Event>, W: Write>(
     }
 }
 
-// A line for each event, or, where a count is kept, only that.
+// Prints a line for each event, or, where it keeps a count, the count alone.
 #[derive(Drop)]
 struct Listing<W> {
     out: W,

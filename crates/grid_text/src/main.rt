@@ -22,8 +22,7 @@ fn write_event<W: Write>(out: &mut W, event: Event) -> anyhow::Result<()> {
     Ok(())
 }
 
-// Writes all that the stage has. Each program drains its stage by itself: a loop for all would be public, and would have to
-// require of a closure that it may be called.
+// Writes all that the stage has: the loop over `next`, short enough to stand in each program.
 fn write_all<S: Stage<Item = Event>, W: Write>(stage: &mut S, out: &mut W) -> anyhow::Result<()>
     ensures { OnOk result ((S.Stage.meaning stage.new [] unclosed).items ≡ []) }
 {
