@@ -5,10 +5,9 @@ use Rattle.mesh_stream.specs.declared.event.Event.{Event}
 use Rattle.mesh_stream.specs.declared.stage.Standing.TheVariants.{Ended}
 use Rattle.mesh_stream.specs.Lists.{counting}
 use Rattle.mesh_stream.specs.Meaning.{outcome}
-use Rattle.mesh_bottoms.specs.declared.grid.part.Part.TheVariants.{NewVertex}
 use Rattle.mesh_bottoms.specs.Placing.{in_places}
 use Rattle.mesh_bottoms.specs.Gridding.{grid_at, grid_row, grid}
-use Rattle.mesh_bottoms.specs.Walking.{row_from, rows_from, behind, grid_left}
+use Rattle.mesh_bottoms.specs.Walking.{row_from, rows_from}
 
 module _ (f : ℕ → List Event) where
   first : (k n : ℕ) → k < n → flat_map f (counting k (n - k)) ≡ f k ++ flat_map f (counting (k + 1) (n - (k + 1)))
@@ -22,18 +21,16 @@ module _ (f : ℕ → List Event) where
 
 module _ (w h s : ℕ) where
   -- the position and what comes behind it
-  whole : (r c : ℕ) → c < w → grid_left w h s r c NewVertex ≡ row_from w h s r c ++ rows_from w h s (r + 1)
+  pub whole : (r c : ℕ) → c < w → grid_at w h s r c ++ (row_from w h s r (c + 1) ++ rows_from w h s (r + 1)) ≡ row_from w h s r c ++ rows_from w h s (r + 1)
   whole r c l = rw (first (grid_at w h s r) c w l) (sym (append_assoc (grid_at w h s r c) _ _))
 
-  row_start : (r : ℕ) → 1 ≤ w → r < h → grid_left w h s r 0 NewVertex ≡ rows_from w h s r
+  row_start : (r : ℕ) → 1 ≤ w → r < h → grid_at w h s r 0 ++ (row_from w h s r 1 ++ rows_from w h s (r + 1)) ≡ rows_from w h s r
   row_start r l k = whole r 0 l ∙ rw (all (grid_at w h s r) w) (sym (first (grid_row w h s) r h k))
 
-  pub next_column : (r c : ℕ) → c + 1 < w → grid_left w h s r (c + 1) NewVertex ≡ behind w h s r c
-  next_column r c l = whole r (c + 1) l
-
-  pub next_row : (r c : ℕ) → 1 ≤ w → w ≤ c + 1 → r + 1 < h → grid_left w h s (r + 1) 0 NewVertex ≡ behind w h s r c
+  pub next_row : (r c : ℕ) → 1 ≤ w → w ≤ c + 1 → r + 1 < h
+      → grid_at w h s (r + 1) 0 ++ (row_from w h s (r + 1) 1 ++ rows_from w h s (r + 1 + 1)) ≡ row_from w h s r (c + 1) ++ rows_from w h s (r + 1)
   next_row r c k l m = rw (none (grid_at w h s r) (c + 1) w l) (row_start (r + 1) k m)
 
   -- from the first position on it is the whole grid
-  pub all_left : 1 ≤ w → 1 ≤ h → outcome (in_places 1 (grid_left w h s 0 0 NewVertex)) Ended ≡ grid w h s
+  pub all_left : 1 ≤ w → 1 ≤ h → outcome (in_places 1 (grid_at w h s 0 0 ++ (row_from w h s 0 1 ++ rows_from w h s 1))) Ended ≡ grid w h s
   all_left l k = ap (λ (z : List Event). outcome (in_places 1 z) Ended) (row_start 0 l k ∙ all (grid_row w h s) h)

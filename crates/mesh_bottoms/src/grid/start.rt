@@ -4,7 +4,8 @@ ghost use Rattle.mesh_bottoms.specs.Starting.{Made};
 ghost use Rattle.mesh_bottoms.specs.contracts.grid.stage.GridStage.TheImpl.{ghosts as gridding};
 
 use crate::grid::part::Part;
-use crate::grid::{Cursor, Grid, Position};
+use crate::grid::position::Position;
+use crate::grid::{Cursor, Grid};
 use mesh_stream::fault::Refusal;
 
 // Whether the settings are allowed. The products are of 64 bits, which hold them at every setting.

@@ -1,8 +1,10 @@
 ghost use Rattle.std.specs.Prelude.{◌≡◌, ◌+◌, ◌-◌, ◌*◌, ◌≤◌, ◌∷◌, ◌==◌, pos};
-ghost use Rattle.mesh_bottoms.specs.Steps.{number_of, event_of, events_from, PartFollows, PositionFollows};
+ghost use Rattle.mesh_bottoms.specs.Steps.{event_of, events_from};
+ghost use Rattle.mesh_bottoms.specs.Walking.{number_of, PartFollows, PositionFollows};
 
+use crate::grid::Cursor;
 use crate::grid::part::Part;
-use crate::grid::{Cursor, Position};
+use crate::grid::position::Position;
 use mesh_stream::event::{Event, Point};
 
 impl Position {
@@ -46,7 +48,6 @@ impl Position {
     }
 
     // The position that comes next, if one does.
-    #[tactic(auto, using(crate::proofs::Positions::next_column))]
     fn after(mut self) -> Option<Position>
         ensures { PositionFollows self result }
     {
@@ -90,7 +91,7 @@ impl Cursor {
 
     // The part that comes next at this position, if one does.
     fn part_after(&self) -> Option<Part>
-        ensures { PartFollows self.now result }
+        ensures { PartFollows self.now.position self.now.part result }
     {
         let at = &self.position;
         let last_column = at.in_last_column();
