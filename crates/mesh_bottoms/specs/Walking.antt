@@ -2,6 +2,7 @@
 use Rattle.std.specs.Prelude.{◌≡◌, ℕ, ◌+◌, ◌-◌, ◌*◌, ◌<◌, ◌≤◌, Bool, ◌&&◌, List, [], ◌∷◌, ◌++◌, pos, Some, None, Option, ◌==◌, nat_le}
 use Rattle.std.specs.List.{flat_map}
 use Rattle.mesh_stream.specs.declared.event.Event.{Event}
+use Rattle.mesh_stream.specs.declared.event.Point.{Point}
 use Rattle.mesh_stream.specs.declared.event.Event.TheVariants.{Vertex, Triangle, Finalization}
 use Rattle.mesh_stream.specs.Lists.{counting}
 use Rattle.mesh_bottoms.specs.declared.grid.position.Position.{Position}
@@ -33,8 +34,12 @@ module _ (p : Position) where
   abbrev pub number_of : ℕ
   number_of = p.row * p.columns + p.column + 1
 
+  -- where its vertex stands
+  abbrev pub point_of : Point
+  point_of = record { x = pos (p.column * p.step); y = pos (p.row * p.step); z = pos 0 }
+
   abbrev pub part_event : Part → Event
-  part_event NewVertex = Vertex 0 number_of (record { x = pos (p.column * p.step); y = pos (p.row * p.step); z = pos 0 })
+  part_event NewVertex = Vertex 0 number_of point_of
   part_event FirstTriangle = Triangle 0 (number_of - p.columns - 1) (number_of - p.columns) number_of
   part_event SecondTriangle = Triangle 0 (number_of - p.columns - 1) number_of (number_of - 1)
   part_event FinalizationOfP = Finalization 0 (number_of - p.columns - 1)
@@ -42,10 +47,10 @@ module _ (p : Position) where
   part_event FinalizationOfM = Finalization 0 (number_of - 1)
   part_event FinalizationOfN = Finalization 0 number_of
 
-  abbrev last_column : Bool
+  abbrev pub last_column : Bool
   last_column = p.column == p.columns - 1
 
-  abbrev last_row : Bool
+  abbrev pub last_row : Bool
   last_row = p.row == p.rows - 1
 
   abbrev own : Part → List Event

@@ -1,6 +1,6 @@
 ghost use Rattle.std.specs.Prelude.{◌≡◌, ◌+◌, ◌-◌, ◌*◌, ◌≤◌, ◌∷◌, ◌==◌, pos};
 ghost use Rattle.mesh_bottoms.specs.Steps.{event_of, events_from};
-ghost use Rattle.mesh_bottoms.specs.Walking.{number_of, PartFollows, PositionFollows};
+ghost use Rattle.mesh_bottoms.specs.Walking.{number_of, point_of, last_column, last_row, PartFollows, PositionFollows};
 
 use crate::grid::Cursor;
 use crate::grid::part::Part;
@@ -10,7 +10,7 @@ use mesh_stream::event::{Event, Point};
 impl Position {
     // Where its vertex stands.
     fn point(&self) -> Point
-        ensures { result ≡ record { x = pos (self.now.column * self.now.step); y = pos (self.now.row * self.now.step); z = pos 0 } }
+        ensures { result ≡ point_of self.now }
     {
         Point {
             x: (self.column * self.step).cast_signed(),
@@ -36,13 +36,13 @@ impl Position {
     }
 
     fn in_last_column(&self) -> bool
-        ensures { result ≡ self.now.column == self.now.columns - 1 }
+        ensures { result ≡ last_column self.now }
     {
         self.column == self.columns - 1
     }
 
     fn in_last_row(&self) -> bool
-        ensures { result ≡ self.now.row == self.now.rows - 1 }
+        ensures { result ≡ last_row self.now }
     {
         self.row == self.rows - 1
     }
