@@ -1,11 +1,12 @@
 -- Events that introduce the numbers 1, 2, .. in order and finalize them in order keep few vertices live.
 use Rattle.std.proofs.Common.{◌≡◌, ℕ, zero, suc, ◌+◌, ◌-◌, ◌<◌, ◌≤◌, Bool, true, false, cond, not, eqb, ◌⊎◌, List, [], ◌∷◌, ◌++◌, length, filter, sym, refl, ap, ◌∙◌, inl, inr, append_assoc, append-nil, arith}
+use Rattle.std.specs.List.{range_with_len}
 use Rattle.std.proofs.lemmas.Bool.{or_right, cases_lt}
 use Rattle.std.proofs.lemmas.List.Folds.{list_any-append}
 use Rattle.mesh_stream.specs.declared.event.Point.{Point}
 use Rattle.mesh_stream.specs.declared.event.Event.{Event}
 use Rattle.mesh_stream.specs.declared.event.Event.TheVariants.{Vertex, Triangle, Finalization}
-use Rattle.mesh_stream.specs.Lists.{has, counting}
+use Rattle.mesh_stream.specs.Lists.{has}
 use Rattle.mesh_stream.specs.Events.{introduced, finalized, placed}
 use Rattle.mesh_stream.specs.Live.{live, width_after}
 use Rattle.mesh_stream.proofs.Having.{has_left, has_self}
@@ -15,22 +16,22 @@ use Rattle.mesh_bottoms.specs.Placing.{in_places}
 has_last : (n : ℕ) (xs : List ℕ) → has n (xs ++ (n ∷ [])) ≡ true
 has_last n xs = list_any-append (eqb n) xs (n ∷ []) ∙ or_right (has n xs) _ (has_self n [])
 
-counting_last : (n k : ℕ) → counting k (suc n) ≡ counting k n ++ ((k + n) ∷ [])
-counting_last zero k = let e : k ≡ k + 0 = omega arith in ap (λ j. j ∷ []) e
-counting_last (suc n) k =
-    let e : suc k + n ≡ k + suc n = omega arith in
-    ap (λ (z : List ℕ). k ∷ z) (counting_last n (suc k) ∙ ap (λ j. counting (suc k) n ++ (j ∷ [])) e)
+range_last : (n k : ℕ) → range_with_len k (suc n) ≡ range_with_len k n ++ ((k + n) ∷ [])
+range_last zero k = let e : k ≡ k + 0 = omega arith in ap (λ j. j ∷ []) e
+range_last (suc n) k =
+    let e : k + 1 + n ≡ k + suc n = omega arith in
+    ap (λ (z : List ℕ). k ∷ z) (range_last n (k + 1) ∙ ap (λ j. range_with_len (k + 1) n ++ (j ∷ [])) e)
 
 -- Of n numbers in a row, of which the first k fail a test, at most n - k pass it.
-few_pass : (p : ℕ → Bool) (n a k : ℕ) → ((m : ℕ) → a ≤ m → m < a + k → p m ≡ false) → length (filter p (counting a n)) ≤ n - k
+few_pass : (p : ℕ → Bool) (n a k : ℕ) → ((m : ℕ) → a ≤ m → m < a + k → p m ≡ false) → length (filter p (range_with_len a n)) ≤ n - k
 few_pass p zero a k h = omega arith
-few_pass p (suc n) a zero h = at (p a) (few_pass p n (suc a) 0 (λ m i j. absurd (let z : ⊥ = omega arith in z)))
+few_pass p (suc n) a zero h = at (p a) (few_pass p n (a + 1) 0 (λ m i j. absurd (let z : ⊥ = omega arith in z)))
   where
-    at : (b : Bool) → length (filter p (counting (suc a) n)) ≤ n - 0 → length (cond b (a ∷ filter p (counting (suc a) n)) (filter p (counting (suc a) n))) ≤ suc n - 0
+    at : (b : Bool) → length (filter p (range_with_len (a + 1) n)) ≤ n - 0 → length (cond b (a ∷ filter p (range_with_len (a + 1) n)) (filter p (range_with_len (a + 1) n))) ≤ suc n - 0
     at true ih = omega arith
     at false ih = omega arith
 few_pass p (suc n) a (suc k) h =
-    let ih = few_pass p n (suc a) k (λ m i j. h m (omega arith) (omega arith)) in
+    let ih = few_pass p n (a + 1) k (λ m i j. h m (omega arith) (omega arith)) in
     rw (h a (omega arith) (omega arith)) (omega arith)
 
 -- what is finalized stays so
@@ -39,7 +40,7 @@ still es e m h = rw (finalized-++ es (e ∷ [])) (has_left m (finalized es) _ h)
 
 -- The vertices introduced so far are 1 to high, and those up to low are finalized.
 pub record Held (es : List Event) (high low : ℕ) : Type 0 where
-  pub born : introduced es ≡ counting 1 high
+  pub born : introduced es ≡ range_with_len 1 high
   pub done : (n : ℕ) → 1 ≤ n → n ≤ low → has n (finalized es) ≡ true
 
 few_live : (es : List Event) (high low : ℕ) → Held es high low → length (live es) ≤ high - low
@@ -84,7 +85,7 @@ module _ (w : ℕ) where
 
   pub vertex : (high low place n : ℕ) (at : Point) → n ≡ suc high → suc high ≤ low + w + 2 → Leads w (Vertex place n at ∷ []) high low (suc high) low
   vertex high low place n at e s = one (Vertex place n at) high low (suc high) low s (λ es p h. record {
-    born = let f : n ≡ 1 + high = omega arith in rw (introduced_v es p n at, h.born, f) (sym (counting_last high 1));
+    born = let f : n ≡ 1 + high = omega arith in rw (introduced_v es p n at, h.born, f) (sym (range_last high 1));
     done = λ m a b. still es (Vertex p n at) m (h.done m a b);
   })
 

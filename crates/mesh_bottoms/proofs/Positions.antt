@@ -1,22 +1,22 @@
 -- From position to position of the grid.
-use Rattle.std.proofs.Common.{◌≡◌, ℕ, suc, ◌+◌, ◌-◌, ◌<◌, ◌≤◌, List, [], ◌++◌, sym, ap, ◌∙◌, append_assoc, add-one, arith}
-use Rattle.std.specs.List.{flat_map}
+use Rattle.std.proofs.Common.{◌≡◌, ℕ, ◌+◌, ◌-◌, ◌<◌, ◌≤◌, List, [], ◌++◌, sym, ap, ◌∙◌, append_assoc, arith}
+use Rattle.std.specs.List.{flat_map, range_with_len}
+use Rattle.std.proofs.iter.Rest.{range_with_len_first, range_with_len_none}
 use Rattle.mesh_stream.specs.declared.event.Event.{Event}
 use Rattle.mesh_stream.specs.declared.stage.Standing.TheVariants.{Ended}
-use Rattle.mesh_stream.specs.Lists.{counting}
 use Rattle.mesh_stream.specs.Meaning.{outcome}
 use Rattle.mesh_bottoms.specs.Placing.{in_places}
 use Rattle.mesh_bottoms.specs.Gridding.{grid_at, grid_row, grid}
 use Rattle.mesh_bottoms.specs.Walking.{row_from, rows_from}
 
 module _ (f : ℕ → List Event) where
-  first : (k n : ℕ) → k < n → flat_map f (counting k (n - k)) ≡ f k ++ flat_map f (counting (k + 1) (n - (k + 1)))
-  first k n l = let a : n - k ≡ suc (n - (k + 1)) = omega arith in rw (a, add-one)
+  first : (k n : ℕ) → k < n → flat_map f (range_with_len k (n - k)) ≡ f k ++ flat_map f (range_with_len (k + 1) (n - (k + 1)))
+  first k n l = ap (flat_map f) (range_with_len_first k n l)
 
-  none : (k n : ℕ) → n ≤ k → flat_map f (counting k (n - k)) ≡ []
-  none k n l = let a : n - k ≡ 0 = omega arith in rw a
+  none : (k n : ℕ) → n ≤ k → flat_map f (range_with_len k (n - k)) ≡ []
+  none k n l = ap (flat_map f) (range_with_len_none k n l)
 
-  all : (n : ℕ) → flat_map f (counting 0 (n - 0)) ≡ flat_map f (counting 0 n)
+  all : (n : ℕ) → flat_map f (range_with_len 0 (n - 0)) ≡ flat_map f (range_with_len 0 n)
   all n = let a : n - 0 ≡ n = omega arith in rw a
 
 module _ (w h s : ℕ) where

@@ -1,10 +1,9 @@
 -- The grid event by event: what is left of it from a part of a position on. (The places are set afterwards.)
 use Rattle.std.specs.Prelude.{◌≡◌, ℕ, ◌+◌, ◌-◌, ◌*◌, ◌<◌, ◌≤◌, Bool, ◌&&◌, List, [], ◌∷◌, ◌++◌, pos, Some, None, Option, ◌==◌, nat_le}
-use Rattle.std.specs.List.{flat_map}
+use Rattle.std.specs.List.{flat_map, range_with_len}
 use Rattle.mesh_stream.specs.declared.event.Event.{Event}
 use Rattle.mesh_stream.specs.declared.event.Point.{Point}
 use Rattle.mesh_stream.specs.declared.event.Event.TheVariants.{Vertex, Triangle, Finalization}
-use Rattle.mesh_stream.specs.Lists.{counting}
 use Rattle.mesh_bottoms.specs.declared.grid.position.Position.{Position}
 use Rattle.mesh_bottoms.specs.declared.grid.part.Part.{Part}
 use Rattle.mesh_bottoms.specs.declared.grid.part.Part.TheVariants.{NewVertex, FirstTriangle, SecondTriangle, FinalizationOfP, FinalizationOfQ, FinalizationOfM, FinalizationOfN}
@@ -23,11 +22,11 @@ turn FinalizationOfN = 6
 module _ (w h s : ℕ) where
   -- of row r, the columns from c on
   abbrev pub row_from : ℕ → ℕ → List Event
-  row_from r c = flat_map (grid_at w h s r) (counting c (w - c))
+  row_from r c = flat_map (grid_at w h s r) (range_with_len c (w - c))
 
   -- the rows from r on
   abbrev pub rows_from : ℕ → List Event
-  rows_from r = flat_map (grid_row w h s) (counting r (h - r))
+  rows_from r = flat_map (grid_row w h s) (range_with_len r (h - r))
 
 module _ (p : Position) where
   -- the number of its vertex
