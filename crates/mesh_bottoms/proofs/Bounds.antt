@@ -2,9 +2,7 @@
 use Rattle.std.proofs.Common.{◌+◌, ◌*◌, ◌≤◌, add-mul, mul-le-mul, one-mul, arith}
 use Rattle.std.proofs.lemmas.Bool.Decides.{nat_tests}
 use Rattle.mesh_bottoms.specs.declared.grid.position.Position.{Position}
-use Rattle.mesh_bottoms.specs.declared.grid.part.Part.{Part}
-use Rattle.mesh_bottoms.specs.declared.grid.part.Part.TheVariants.{NewVertex, FirstTriangle, SecondTriangle, FinalizationOfP, FinalizationOfQ, FinalizationOfM, FinalizationOfN}
-use Rattle.mesh_bottoms.specs.Walking.{turn, number_of}
+use Rattle.mesh_bottoms.specs.Walking.{number_of}
 
 pub number_bound : (p : Position) → number_of p ≤ 50000000
 number_bound p =
@@ -14,12 +12,3 @@ number_bound p =
     let j : p.columns ≤ 1000 = grind (arith, nat_tests) in
     let m : (p.row + 1) * p.columns ≤ 50000 * 1000 = mul-le-mul i j in
     omega (arith, add-mul p.row 1 p.columns, one-mul p.columns)
-
-pub turn_high : (part : Part) → turn part ≤ 6
-turn_high NewVertex = omega arith
-turn_high FirstTriangle = omega arith
-turn_high SecondTriangle = omega arith
-turn_high FinalizationOfP = omega arith
-turn_high FinalizationOfQ = omega arith
-turn_high FinalizationOfM = omega arith
-turn_high FinalizationOfN = omega arith

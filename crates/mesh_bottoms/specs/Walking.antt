@@ -9,15 +9,15 @@ use Rattle.mesh_bottoms.specs.declared.grid.part.Part.{Part}
 use Rattle.mesh_bottoms.specs.declared.grid.part.Part.TheVariants.{NewVertex, FirstTriangle, SecondTriangle, FinalizationOfP, FinalizationOfQ, FinalizationOfM, FinalizationOfN}
 use Rattle.mesh_bottoms.specs.Gridding.{when, grid_cell, grid_at, grid_row}
 
--- how many parts stand before it
-abbrev pub turn : Part → ℕ
-turn NewVertex = 0
-turn FirstTriangle = 1
-turn SecondTriangle = 2
-turn FinalizationOfP = 3
-turn FinalizationOfQ = 4
-turn FinalizationOfM = 5
-turn FinalizationOfN = 6
+-- how many parts of its position stand behind it
+abbrev pub parts_behind : Part → ℕ
+parts_behind NewVertex = 6
+parts_behind FirstTriangle = 5
+parts_behind SecondTriangle = 4
+parts_behind FinalizationOfP = 3
+parts_behind FinalizationOfQ = 2
+parts_behind FinalizationOfM = 1
+parts_behind FinalizationOfN = 0
 
 module _ (w h s : ℕ) where
   -- of row r, the columns from c on
@@ -85,7 +85,7 @@ module _ (p : Position) where
   -- A part that comes next after another, if one does.
   pub record GoesOn (part next : Part) : Type 0 where
     pub left : after_part part ≡ part_event next ∷ after_part next
-    pub later : turn part < turn next
+    pub later : parts_behind next < parts_behind part
     pub row_inner : 1 ≤ p.row
     pub column_inner : 1 ≤ p.column
 
