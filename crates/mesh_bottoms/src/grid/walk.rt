@@ -110,6 +110,7 @@ impl Cursor {
     }
 
     // The event behind it, if one is left.
+    #[tactic(auto, using(crate::proofs::Bounds::number_bound))]
     pub(super) fn after(self) -> Option<Cursor>
         ensures { events_from (Some self) ≡ event_of self ∷ events_from result }
     {
