@@ -1,4 +1,4 @@
-ghost use Rattle.std.specs.Prelude.{◌+◌, ◌-◌, ◌*◌, ◌≤◌, min};
+ghost use Rattle.std.specs.Prelude.{◌+◌, ◌*◌, ◌<◌, ◌≤◌};
 ghost use Rattle.mesh_bottoms.specs.Walking.{parts_behind, number_of};
 
 use crate::grid::part::Part;
@@ -24,7 +24,7 @@ struct Cursor {
     part: Part,
     place: u32,
     // in the first row and the first column only the vertex comes
-    ghost inner: { (min (6 - parts_behind part) 1 ≤ position.row) × (min (6 - parts_behind part) 1 ≤ position.column) },
+    ghost inner: { parts_behind part < 6 → (1 ≤ position.row) × (1 ≤ position.column) },
     // no position has more than 7 events
     ghost seven: { place + parts_behind part ≤ 7 * number_of position },
 }

@@ -1,4 +1,4 @@
-ghost use Rattle.std.specs.Prelude.{◌≡◌, ◌+◌, ◌-◌, ◌*◌, ◌≤◌, ◌∷◌, ◌==◌, pos};
+ghost use Rattle.std.specs.Prelude.{◌≡◌, ◌+◌, ◌-◌, ◌≤◌, ◌∷◌};
 ghost use Rattle.mesh_bottoms.specs.Steps.{event_of, events_from};
 ghost use Rattle.mesh_bottoms.specs.Walking.{number_of, point_of, last_column, last_row, PartFollows, PositionFollows};
 
