@@ -1,11 +1,13 @@
 -- Events that introduce the numbers 1, 2, .. in order and finalize them in order keep few vertices live.
 use Rattle.std.proofs.Common.{◌≡◌, ℕ, zero, suc, ◌+◌, ◌-◌, ◌<◌, ◌≤◌, Bool, true, false, cond, not, eqb, ◌⊎◌, List, [], ◌∷◌, ◌++◌, length, filter, sym, refl, ap, ◌∙◌, inl, inr, append_assoc, append-nil, arith}
+use Rattle.std.specs.List.{range_with_len}
+use Rattle.std.proofs.iter.Rest.{range_with_len_last}
 use Rattle.std.proofs.lemmas.Bool.{or_right, cases_lt}
 use Rattle.std.proofs.lemmas.List.Folds.{list_any-append}
 use Rattle.mesh_stream.specs.declared.event.Point.{Point}
 use Rattle.mesh_stream.specs.declared.event.Event.{Event}
 use Rattle.mesh_stream.specs.declared.event.Event.TheVariants.{Vertex, Triangle, Finalization}
-use Rattle.mesh_stream.specs.Lists.{has, counting}
+use Rattle.mesh_stream.specs.Lists.{has}
 use Rattle.mesh_stream.specs.Events.{introduced, finalized, placed}
 use Rattle.mesh_stream.specs.Live.{live, width_after}
 use Rattle.mesh_stream.proofs.Having.{has_left, has_self}
@@ -15,22 +17,22 @@ use Rattle.mesh_bottoms.specs.Placing.{in_places}
 has_last : (n : ℕ) (xs : List ℕ) → has n (xs ++ (n ∷ [])) ≡ true
 has_last n xs = list_any-append (eqb n) xs (n ∷ []) ∙ or_right (has n xs) _ (has_self n [])
 
-counting_last : (n k : ℕ) → counting k (suc n) ≡ counting k n ++ ((k + n) ∷ [])
-counting_last zero k = let e : k ≡ k + 0 = omega arith in ap (λ j. j ∷ []) e
-counting_last (suc n) k =
-    let e : suc k + n ≡ k + suc n = omega arith in
-    ap (λ (z : List ℕ). k ∷ z) (counting_last n (suc k) ∙ ap (λ j. counting (suc k) n ++ (j ∷ [])) e)
+range_last : (n : ℕ) → range_with_len 1 (suc n) ≡ range_with_len 1 n ++ (suc n ∷ [])
+range_last n =
+    let e : n + 2 - 1 ≡ suc n = omega arith in
+    let f : suc n - 1 ≡ n = omega arith in
+    rw (e, f) at (range_with_len_last 1 (n + 2) (omega arith))
 
 -- Of n numbers in a row, of which the first k fail a test, at most n - k pass it.
-few_pass : (p : ℕ → Bool) (n a k : ℕ) → ((m : ℕ) → a ≤ m → m < a + k → p m ≡ false) → length (filter p (counting a n)) ≤ n - k
+few_pass : (p : ℕ → Bool) (n a k : ℕ) → ((m : ℕ) → a ≤ m → m < a + k → p m ≡ false) → length (filter p (range_with_len a n)) ≤ n - k
 few_pass p zero a k h = omega arith
-few_pass p (suc n) a zero h = at (p a) (few_pass p n (suc a) 0 (λ m i j. absurd (let z : ⊥ = omega arith in z)))
+few_pass p (suc n) a zero h = at (p a) (few_pass p n (a + 1) 0 (λ m i j. absurd (let z : ⊥ = omega arith in z)))
   where
-    at : (b : Bool) → length (filter p (counting (suc a) n)) ≤ n - 0 → length (cond b (a ∷ filter p (counting (suc a) n)) (filter p (counting (suc a) n))) ≤ suc n - 0
+    at : (b : Bool) → length (filter p (range_with_len (a + 1) n)) ≤ n - 0 → length (cond b (a ∷ filter p (range_with_len (a + 1) n)) (filter p (range_with_len (a + 1) n))) ≤ suc n - 0
     at true ih = omega arith
     at false ih = omega arith
 few_pass p (suc n) a (suc k) h =
-    let ih = few_pass p n (suc a) k (λ m i j. h m (omega arith) (omega arith)) in
+    let ih = few_pass p n (a + 1) k (λ m i j. h m (omega arith) (omega arith)) in
     rw (h a (omega arith) (omega arith)) (omega arith)
 
 -- what is finalized stays so
@@ -39,7 +41,7 @@ still es e m h = rw (finalized-++ es (e ∷ [])) (has_left m (finalized es) _ h)
 
 -- The vertices introduced so far are 1 to high, and those up to low are finalized.
 pub record Held (es : List Event) (high low : ℕ) : Type 0 where
-  pub born : introduced es ≡ counting 1 high
+  pub born : introduced es ≡ range_with_len 1 high
   pub done : (n : ℕ) → 1 ≤ n → n ≤ low → has n (finalized es) ≡ true
 
 few_live : (es : List Event) (high low : ℕ) → Held es high low → length (live es) ≤ high - low
@@ -82,27 +84,28 @@ module _ (w : ℕ) where
     narrow = λ es place h. let f = few_live (es ++ (placed place e ∷ [])) high' low' (held es place h) in omega arith;
   }
 
-  pub vertex : (high low place n : ℕ) (at : Point) → n ≡ suc high → suc high ≤ low + w + 2 → Leads w (Vertex place n at ∷ []) high low (suc high) low
-  vertex high low place n at e s = one (Vertex place n at) high low (suc high) low s (λ es p h. record {
-    born = let f : n ≡ 1 + high = omega arith in rw (introduced_v es p n at, h.born, f) (sym (counting_last high 1));
+  pub vertex : (high low n : ℕ) (at : Point) → n ≡ suc high → suc high ≤ low + w + 2 → Leads w (Vertex 0 n at ∷ []) high low (suc high) low
+  vertex high low n at e s = one (Vertex 0 n at) high low (suc high) low s (λ es p h. record {
+    born = rw (introduced_v es p n at, h.born, e) (sym (range_last high));
     done = λ m a b. still es (Vertex p n at) m (h.done m a b);
   })
 
-  pub triangle : (high low place a b c : ℕ) → high ≤ low + w + 2 → Leads w (Triangle place a b c ∷ []) high low high low
-  triangle high low place a b c s = one (Triangle place a b c) high low high low s (λ es p h. record {
-    born = introduced_t es p a b c ∙ h.born;
-    done = λ m i j. still es (Triangle p a b c) m (h.done m i j);
+  -- an event that introduces no vertex
+  other : (high low : ℕ) (e : Event) → ((es : List Event) (p : ℕ) → introduced (es ++ (placed p e ∷ [])) ≡ introduced es) → high ≤ low + w + 2 → Leads w (e ∷ []) high low high low
+  other high low e same s = one e high low high low s (λ es p h. record {
+    born = same es p ∙ h.born;
+    done = λ m i j. still es (placed p e) m (h.done m i j);
   })
+
+  pub triangle : (high low a b c : ℕ) → high ≤ low + w + 2 → Leads w (Triangle 0 a b c ∷ []) high low high low
+  triangle high low a b c = other high low (Triangle 0 a b c) (λ es p. introduced_t es p a b c)
 
   -- the finalization of any vertex, and that of the lowest one that is not finalized yet
-  pub final : (high low place i : ℕ) → high ≤ low + w + 2 → Leads w (Finalization place i ∷ []) high low high low
-  final high low place i s = one (Finalization place i) high low high low s (λ es p h. record {
-    born = introduced_f es p i ∙ h.born;
-    done = λ m a b. still es (Finalization p i) m (h.done m a b);
-  })
+  pub final : (high low i : ℕ) → high ≤ low + w + 2 → Leads w (Finalization 0 i ∷ []) high low high low
+  final high low i = other high low (Finalization 0 i) (λ es p. introduced_f es p i)
 
-  pub next_final : (high low place i : ℕ) → i ≡ suc low → high ≤ suc low + w + 2 → Leads w (Finalization place i ∷ []) high low high (suc low)
-  next_final high low place i e s = one (Finalization place i) high low high (suc low) s (λ es p h. record {
+  pub next_final : (high low i : ℕ) → i ≡ suc low → high ≤ suc low + w + 2 → Leads w (Finalization 0 i ∷ []) high low high (suc low)
+  next_final high low i e s = one (Finalization 0 i) high low high (suc low) s (λ es p h. record {
     born = introduced_f es p i ∙ h.born;
     done = λ m a b. at es p m a b h (cases_lt low m);
   })

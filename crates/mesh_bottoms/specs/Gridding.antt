@@ -1,10 +1,9 @@
 -- The grid of w columns and h rows with step s.
 use Rattle.std.specs.Prelude.{ℕ, ◌+◌, ◌-◌, ◌*◌, Bool, true, false, ◌&&◌, List, [], ◌∷◌, ◌++◌, pos, nat_eq, nat_le}
-use Rattle.std.specs.List.{flat_map}
+use Rattle.std.specs.List.{flat_map, range_with_len}
 use Rattle.mesh_stream.specs.declared.event.Event.{Event}
 use Rattle.mesh_stream.specs.declared.event.Event.TheVariants.{Vertex, Triangle, Finalization}
 use Rattle.mesh_stream.specs.declared.stage.Standing.TheVariants.{Ended}
-use Rattle.mesh_stream.specs.Lists.{counting}
 use Rattle.mesh_stream.specs.Meaning.{Outcome, outcome}
 use Rattle.mesh_bottoms.specs.Placing.{in_places}
 
@@ -37,8 +36,8 @@ grid_at w h s r c =
     ∷ when (nat_le 1 r && nat_le 1 c) (grid_cell w h r c)
 
 abbrev pub grid_row : ℕ → ℕ → ℕ → ℕ → List Event
-grid_row w h s r = flat_map (grid_at w h s r) (counting 0 w)
+grid_row w h s r = flat_map (grid_at w h s r) (range_with_len 0 w)
 
 -- Row by row, each from its first column to its last; the places count the events from 1.
 abbrev pub grid : ℕ → ℕ → ℕ → Outcome Event
-grid w h s = outcome (in_places 1 (flat_map (grid_row w h s) (counting 0 h))) Ended
+grid w h s = outcome (in_places 1 (flat_map (grid_row w h s) (range_with_len 0 h))) Ended

@@ -6,6 +6,6 @@ pub mod Gridding
 pub mod Starting
 -- That a stage with one ended outcome keeps the law of a stage.
 pub mod Fixed
--- What the steps of the grid do.
+-- What is left of the grid from a part of a position on, and from a cursor on.
 pub mod Walking
 pub mod Steps

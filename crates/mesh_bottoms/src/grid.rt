@@ -1,10 +1,11 @@
-ghost use Rattle.std.specs.Prelude.{◌≡◌, ◌+◌, ◌*◌, ◌<◌, ◌≤◌, min, true};
-ghost use Rattle.mesh_bottoms.specs.Gridding.{grid_allowed};
-ghost use Rattle.mesh_bottoms.specs.Walking.{turn, number_at};
+ghost use Rattle.std.specs.Prelude.{◌+◌, ◌*◌, ◌<◌, ◌≤◌};
+ghost use Rattle.mesh_bottoms.specs.Walking.{parts_behind, number_of};
 
 use crate::grid::part::Part;
+use crate::grid::position::Position;
 
 mod part;
+mod position;
 pub mod stage;
 mod start;
 mod walk;
@@ -23,20 +24,7 @@ struct Cursor {
     part: Part,
     place: u32,
     // in the first row and the first column only the vertex comes
-    ghost inner: { (min (turn part) 1 ≤ position.row) × (min (turn part) 1 ≤ position.column) },
+    ghost inner: { parts_behind part < 6 → (1 ≤ position.row) × (1 ≤ position.column) },
     // no position has more than 7 events
-    ghost seven: { place + 6 ≤ 7 * number_at position.columns position.row position.column + turn part },
-}
-
-// A position of the grid with these settings. Its row and column are counted from 0.
-#[derive(Clone, Copy)]
-struct Position {
-    columns: u32,
-    rows: u32,
-    step: u32,
-    row: u32,
-    column: u32,
-    ghost allowed: { grid_allowed columns rows step ≡ true },
-    ghost row_within: { row < rows },
-    ghost column_within: { column < columns },
+    ghost seven: { place + parts_behind part ≤ 7 * number_of position },
 }

@@ -1,5 +1,5 @@
 -- Lists of numbers.
-use Rattle.std.specs.Prelude.{ℕ, zero, suc, Bool, List, [], ◌∷◌, ◌==◌, nat_lt}
+use Rattle.std.specs.Prelude.{ℕ, Bool, List, ◌==◌, nat_lt}
 use Rattle.std.specs.List.{list_any, list_all}
 
 abbrev pub has : ℕ → List ℕ → Bool
@@ -8,8 +8,3 @@ has n = list_any (λ m. n == m)
 -- n is above each of them
 abbrev pub above_all : ℕ → List ℕ → Bool
 above_all n = list_all (λ m. nat_lt m n)
-
--- k, k + 1 and so on, n numbers in all
-abbrev pub counting : ℕ → ℕ → List ℕ
-counting k zero = []
-counting k (suc n) = k ∷ counting (suc k) n

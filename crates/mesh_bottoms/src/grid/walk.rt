@@ -1,14 +1,16 @@
-ghost use Rattle.std.specs.Prelude.{◌≡◌, ◌+◌, ◌-◌, ◌*◌, ◌≤◌, ◌∷◌, ◌==◌, pos};
-ghost use Rattle.mesh_bottoms.specs.Steps.{number_of, event_of, events_from, PartFollows, PositionFollows};
+ghost use Rattle.std.specs.Prelude.{◌≡◌, ◌+◌, ◌-◌, ◌≤◌, ◌∷◌};
+ghost use Rattle.mesh_bottoms.specs.Steps.{event_of, events_from};
+ghost use Rattle.mesh_bottoms.specs.Walking.{number_of, point_of, last_column, last_row, PartFollows, PositionFollows};
 
+use crate::grid::Cursor;
 use crate::grid::part::Part;
-use crate::grid::{Cursor, Position};
+use crate::grid::position::Position;
 use mesh_stream::event::{Event, Point};
 
 impl Position {
     // Where its vertex stands.
     fn point(&self) -> Point
-        ensures { result ≡ record { x = pos (self.now.column * self.now.step); y = pos (self.now.row * self.now.step); z = pos 0 } }
+        ensures { result ≡ point_of self.now }
     {
         Point {
             x: (self.column * self.step).cast_signed(),
@@ -34,19 +36,18 @@ impl Position {
     }
 
     fn in_last_column(&self) -> bool
-        ensures { result ≡ self.now.column == self.now.columns - 1 }
+        ensures { result ≡ last_column self.now }
     {
         self.column == self.columns - 1
     }
 
     fn in_last_row(&self) -> bool
-        ensures { result ≡ self.now.row == self.now.rows - 1 }
+        ensures { result ≡ last_row self.now }
     {
         self.row == self.rows - 1
     }
 
     // The position that comes next, if one does.
-    #[tactic(auto, using(crate::proofs::Positions::next_column))]
     fn after(mut self) -> Option<Position>
         ensures { PositionFollows self result }
     {
@@ -90,7 +91,7 @@ impl Cursor {
 
     // The part that comes next at this position, if one does.
     fn part_after(&self) -> Option<Part>
-        ensures { PartFollows self.now result }
+        ensures { PartFollows self.now.position self.now.part result }
     {
         let at = &self.position;
         let last_column = at.in_last_column();
@@ -109,6 +110,7 @@ impl Cursor {
     }
 
     // The event behind it, if one is left.
+    #[tactic(auto, using(crate::proofs::Bounds::number_bound))]
     pub(super) fn after(self) -> Option<Cursor>
         ensures { events_from (Some self) ≡ event_of self ∷ events_from result }
     {

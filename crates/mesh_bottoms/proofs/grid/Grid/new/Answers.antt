@@ -9,4 +9,4 @@ returns c =
     let a = sym c.if-not-allows.ensures in
     let l : 2 ≤ c.args.columns = grind (arith, nat_tests) in
     let h : 2 ≤ c.args.rows = grind (arith, nat_tests) in
-    record { allowed = a; means = λ t m. all_left _ _ _ (omega arith) (omega arith); no_text = refl; narrow = grid_narrow _ _ _ l }
+    record { allowed = a; means = λ t m. all_left c.args.columns c.args.rows c.args.step (omega arith) (omega arith); no_text = refl; narrow = grid_narrow c.args.columns c.args.rows c.args.step l }
