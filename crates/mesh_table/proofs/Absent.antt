@@ -11,7 +11,7 @@ use Rattle.mesh_table.proofs.SlotCases.{empty_full, foreign_misses, foreign_fill
 use Rattle.mesh_table.proofs.Finite.{size_full, lookup_none, lookup_here}
 
 module _ {V : Type 0} (n : ℕ) (ss : List (Slot V)) (k : Key) (len : length ss ≡ n) (hn : home_slot n k < n) where
-  within : (j : ℕ) (v : V) → slot_at ss j ≡ Full k v → j < n
+  pub within : (j : ℕ) (v : V) → slot_at ss j ≡ Full k v → j < n
   within j v p =
       ⊎_elim (λ (l : j < n). l)
       (λ (l : n ≤ j). absurd (empty_full (slot_at ss j) k v (get_or_past ss j Empty (omega arith)) p)) (cases_lt j n)
@@ -45,7 +45,7 @@ module _ {V : Type 0} (n : ℕ) (ss : List (Slot V)) (k : Key) (len : length ss 
 
   pub sought : Distinct ss → Reached n ss → (r : Probe n) → Probed n ss k r → Sought n ss k r
   sought distinct reach (Found i) has =
-      let here : lookup ss k ≡ Some has.0 = lookup_here ss i.number k has.0 distinct has.1 in
+      let here : lookup ss k ≡ Some has.0 = lookup_here ss i k has.0 distinct has.1 in
       (has, here ∙ sym (ap value_in has.1), ap is_some here)
   sought distinct reach (Vacant i) vac = (
     vac,

@@ -1,11 +1,11 @@
 -- What a write to one slot makes of the map that the slots are.
-use Rattle.std.proofs.Common.{◌≡◌, ℕ, ◌+◌, ◌<◌, cond, List, length, set, replicate, is_some, Some, None, Option, sym, refl, ap, ◌∙◌, inl, inr, ⊎_elim, arith}
+use Rattle.std.proofs.Common.{◌≡◌, ℕ, ◌+◌, ◌<◌, cond, List, length, set, replicate, is_some, Some, None, Option, sym, refl, ap, ◌∙◌, subst, inl, inr, ⊎_elim, arith}
 use Rattle.std.proofs.lemmas.List.{get_or-set_same}
 use Rattle.std.proofs.lemmas.Bool.{cases_eq}
 use Rattle.mesh_table.specs.declared.key.Key.{Key}
 use Rattle.mesh_table.specs.Probing.{Slot, Empty, Full, slot_at, slot_ahead, home_slot, filled, size, lookup, Misses, Distinct, Reached, Has, Sound, Holed, Alike, Becomes, EndsAt, Cut}
-use Rattle.mesh_table.proofs.Steps.{ahead_onto, ahead_same, home_below}
-use Rattle.mesh_table.proofs.Absent.{vacant_misses}
+use Rattle.mesh_table.proofs.Steps.{ahead_onto, ahead_below, ahead_same, home_below}
+use Rattle.mesh_table.proofs.Absent.{within, vacant_misses}
 use Rattle.mesh_table.proofs.SlotCases.{empty_full, full_key, empty_misses, full_misses, foreign_full}
 use Rattle.mesh_table.proofs.Finite.{lookup_here, lookup_none, lookup_set_miss, size_set, slot_none, was, distinct_two}
 
@@ -123,8 +123,9 @@ module _ {V : Type 0} (n : ℕ) (ss : List (Slot V)) (len : length ss ≡ n) (di
           (cases_eq j i)
 
   module _ (pos : 0 < n) (re : Reached n ss) where
-    pub took : (k : Key) (v : V) (i : ℕ) → i < n → EndsAt n ss k i → Took n ss (set ss i (Full k v)) k v
-    took k v i lt (inl (has, at, there)) =
+    pub took : (k : Key) (v : V) (i : ℕ) → EndsAt n ss k i → Took n ss (set ss i (Full k v)) k v
+    took k v i (inl (has, at, there)) =
+        let lt = within n ss k len (home_below n k pos) i has.0 has.1 in
         let l : i < length ss = omega arith in
         let o = ahead_onto n (home_slot n k) i (home_below n k pos) lt in
         let p =
@@ -139,7 +140,8 @@ module _ {V : Type 0} (n : ℕ) (ss : List (Slot V)) (len : length ss ≡ n) (di
           becomes = p.becomes;
           counted = omega (arith, size_set ss i (Full k v) l, ap filled has.1, ap (λ b. cond {A = ℕ} b 1 0) there);
         }
-    took k v i lt (inr (vac, none)) =
+    took k v i (inr (vac, none)) =
+        let lt : i < n = subst (λ (x : ℕ). x < n) (sym vac.at) (ahead_below n (home_slot n k) vac.steps (home_below n k pos) vac.within) in
         let l : i < length ss = omega arith in
         let miss = vacant_misses n ss k len (home_below n k pos) re vac.steps (ap (slot_at ss) (sym vac.at) ∙ vac.bare) vac.passed in
         let p = put_full k v i lt (λ j _. miss j) (λ q _. empty_misses (slot_at ss i) q vac.bare) in
@@ -152,8 +154,9 @@ module _ {V : Type 0} (n : ℕ) (ss : List (Slot V)) (len : length ss ≡ n) (di
           counted = omega (arith, size_set ss i (Full k v) l, ap filled vac.bare, ap (λ (o : Option V). cond {A = ℕ} (is_some o) 1 0) none);
         }
 
-    pub emptied : (k : Key) (i : ℕ) → i < n → Has (slot_at ss i) k → Emptied n ss (set ss i Empty) k i
-    emptied k i lt has =
+    pub emptied : (k : Key) (i : ℕ) → Has (slot_at ss i) k → Emptied n ss (set ss i Empty) k i
+    emptied k i has =
+        let lt = within n ss k len (home_below n k pos) i has.0 has.1 in
         let l : i < length ss = omega arith in
         let e = put_empty k has.0 i lt has.1 in
         record {

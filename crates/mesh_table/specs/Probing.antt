@@ -100,8 +100,8 @@ pub record Vacancy {V : Type 0} (n : ℕ) (ss : List (Slot V)) (k : Key) (i : �
 
 -- How a search for k among n slots ends.
 abbrev pub Probed : {V : Type 0} → (n : ℕ) → List (Slot V) → Key → Probe n → Type 0
-Probed n ss k (Found i) = Has (slot_at ss i.number) k
-Probed n ss k (Vacant i) = Vacancy n ss k i.number
+Probed n ss k (Found i) = Has (slot_at ss i) k
+Probed n ss k (Vacant i) = Vacancy n ss k i
 Probed n ss k Exhausted = Passed n ss k n
 
 -- Slots that may be searched.
@@ -127,7 +127,7 @@ pub record CutOff {V : Type 0} (n : ℕ) (ss : List (Slot V)) (hole i : ℕ) : T
 -- What the hole cuts off: the record in a slot, or nothing.
 abbrev pub Behind : {V : Type 0} → (n : ℕ) → List (Slot V) → ℕ → Option (SlotNumber n) → Type 0
 Behind n ss hole None = Sound n ss
-Behind n ss hole (Some i) = CutOff n ss hole i.number
+Behind n ss hole (Some i) = CutOff n ss hole i
 
 -- The same records, wherever they stand.
 pub record Alike {V : Type 0} (ss ts : List (Slot V)) : Type 0 where
@@ -148,8 +148,8 @@ FreeAt n ss k i = Vacancy n ss k i × (lookup ss k ≡ None)
 
 -- What the end of a search for k says of the map.
 abbrev pub Sought : {V : Type 0} → (n : ℕ) → List (Slot V) → Key → Probe n → Type 0
-Sought n ss k (Found i) = FoundAt ss k i.number
-Sought n ss k (Vacant i) = FreeAt n ss k i.number
+Sought n ss k (Found i) = FoundAt ss k i
+Sought n ss k (Vacant i) = FreeAt n ss k i
 Sought n ss k Exhausted = (lookup ss k ≡ None) × (size ss ≡ n)
 
 -- A search for k ends at slot i.

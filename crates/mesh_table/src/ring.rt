@@ -41,13 +41,13 @@ impl<V: Copy, const N: usize> Ring<V, N> {
     }
 
     pub(crate) fn slot(&self, i: SlotNumber<N>) -> Option<Record<V>>
-        ensures { result ≡ slot_at self.now.array i.entry.number }
+        ensures { result ≡ slot_at self.now.array i.entry }
     {
         self.array[i.number]
     }
 
     pub(crate) fn put(&mut self, i: SlotNumber<N>, slot: Option<Record<V>>)
-        ensures { self.new.array ≡ slice_set self.old.array i.entry.number slot }
+        ensures { self.new.array ≡ slice_set self.old.array i.entry slot }
     {
         self.array[i.number] = slot;
     }
@@ -55,7 +55,7 @@ impl<V: Copy, const N: usize> Ring<V, N> {
     // Where a search for the key begins. The high bits of the spread decide, since they depend on every bit of the key. With `as`,
     // since the library's conversions from u32 to usize may fail.
     fn home(&self, key: Key) -> SlotNumber<N>
-        ensures { result.number ≡ home_slot N key }
+        ensures { result ≡ home_slot N key }
     {
         SlotNumber {
             number: (key.spread() as usize * N) >> 32,

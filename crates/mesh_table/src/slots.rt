@@ -35,14 +35,14 @@ impl<V: Copy, const N: usize> Slots<V, N> {
 
     // The value in a slot, if it has one.
     pub(crate) fn value(&self, i: SlotNumber<N>) -> Option<V>
-        ensures { result ≡ value_in (slot_at self.now.ring.array i.entry.number) }
+        ensures { result ≡ value_in (slot_at self.now.ring.array i.entry) }
     {
         Some(self.ring.slot(i)?.value)
     }
 
     // Puts a value at a key, into the slot that a search for the key came to.
     pub(crate) fn set(&mut self, i: SlotNumber<N>, key: Key, value: V)
-        requires { EndsAt N self.old.ring.array key i.number }
+        requires { EndsAt N self.old.ring.array key i }
         ensures becomes { Becomes self.old.ring.array self.new.ring.array key (Some value) }
         ensures counted { size self.new.ring.array + (if is_some (lookup self.old.ring.array key) then 1 else 0) ≡ size self.old.ring.array + 1 }
     {

@@ -3,13 +3,13 @@ use Rattle.mesh_table.specs.Probing.{Slot}
 use Rattle.mesh_table.proofs.Writes.{Emptied, emptied, becomes_alike}
 use Rattle.mesh_table.proofs.slots.Slots.remove.Goals as goal
 
-taken : (g : _) (c : goal.After-close_up-arg-1 g) → Emptied g.row.N c.args.self.now.ring.array c.put.new.self.array c.args.key c.in-Found.i.number
+taken : (g : _) (c : goal.After-close_up-arg-1 g) → Emptied g.row.N c.args.self.now.ring.array c.put.new.self.array c.args.key c.in-Found.i
 taken g c =
     let s = c.args.self.now in
     let n = g.row.N in
     let found = c.in-Found.ensures in
-    subst (λ (x : List (Slot g.row.V.Denot)). Emptied n s.ring.array x c.args.key c.in-Found.i.number) (sym c.put.ensures)
-    (emptied n s.ring.array s.ring.long s.sound.distinct s.ring.has_slots s.sound.reached c.args.key c.in-Found.i.number c.in-Found.i.inside found.0)
+    subst (λ (x : List (Slot g.row.V.Denot)). Emptied n s.ring.array x c.args.key c.in-Found.i) (sym c.put.ensures)
+    (emptied n s.ring.array s.ring.long s.sound.distinct s.ring.has_slots s.sound.reached c.args.key c.in-Found.i found.0)
 
 pub close_up-requires : goal.close_up-requires
 close_up-requires g c = (search rules, (search rules, (taken g c).holed))

@@ -8,7 +8,7 @@ after g c =
     let s = c.args.self.now in
     let n = g.row.N in
     subst (λ (x : List (Slot g.row.V.Denot)). Took n s.ring.array x c.args.key c.args.value) (sym c.put.ensures)
-    (took n s.ring.array s.ring.long s.sound.distinct s.ring.has_slots s.sound.reached c.args.key c.args.value c.args.i.number c.args.i.inside c.requires)
+    (took n s.ring.array s.ring.long s.sound.distinct s.ring.has_slots s.sound.reached c.args.key c.args.value c.args.i c.requires)
 
 pub invariant_of-self : goal.invariant_of-self
 invariant_of-self g c = record { sound = (after g c).sound }
