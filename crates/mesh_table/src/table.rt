@@ -15,7 +15,7 @@ pub struct Table<V, const N: usize> {
     slots: Slots<V, N>,
     count: usize,
     limit: usize,
-    ghost counted: { (size slots.ring.array ≡ count) × (count ≤ limit) × (limit ≤ N) },
+    ghost counted: { (size slots ≡ count) × (count ≤ limit) × (limit ≤ N) },
 }
 
 // Why a record is not taken in.
