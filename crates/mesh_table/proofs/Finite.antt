@@ -62,6 +62,12 @@ slot_none {V} n j =
     ⊎_elim (λ (l : j < n). get_or-replicate n j Empty Empty l)
     (λ (l : n ≤ j). get_or_past (replicate n Empty) j Empty (omega (arith, length-replicate {A = Slot V} n Empty))) (cases_lt j n)
 
+-- a full slot is one of the list
+pub full_inside : {V : Type 0} (ss : List (Slot V)) (j : ℕ) (k : Key) (v : V) → slot_at ss j ≡ Full k v → j < length ss
+full_inside ss j k v p =
+    ⊎_elim (λ (l : j < length ss). l)
+    (λ (l : length ss ≤ j). absurd (empty_full (slot_at ss j) k v (get_or_past ss j Empty l) p)) (cases_lt j (length ss))
+
 -- a slot after a write is what was written, or what it was
 pub was :
     {V : Type 0} (ss : List (Slot V)) (i : ℕ) (s : Slot V) (j : ℕ) (y : Slot V) → i < length ss → slot_at (set ss i s) j ≡ y

@@ -1,5 +1,6 @@
 -- A slot is empty or full, and a full one has one key.
 use Rattle.std.proofs.Common.{◌≡◌, Some, None, sym, refl, ap, ◌∙◌}
+use Rattle.std.proofs.lemmas.Option.{same_Some}
 use Rattle.mesh_table.specs.declared.key.Key.{Key}
 use Rattle.mesh_table.specs.declared.ring.Record.{Record}
 use Rattle.mesh_table.specs.Probing.{Slot, Empty, Full, filled, Misses, Foreign}
@@ -7,11 +8,8 @@ use Rattle.mesh_table.specs.Probing.{Slot, Empty, Full, filled, Misses, Foreign}
 pub empty_full : {V : Type 0} (s : Slot V) (k : Key) (v : V) → s ≡ Empty → s ≡ Full k v → ⊥
 empty_full s k v p q = cc
 
-pub some_same : {A : Type 0} (a b : A) → Some a ≡ Some b → a ≡ b
-some_same a b e = cc
-
 pub full_key : {V : Type 0} (s : Slot V) (j k : Key) (v w : V) → s ≡ Full j v → s ≡ Full k w → j ≡ k
-full_key {V} s j k v w p q = ap (λ (r : Record V). r.key) (some_same (record { key = j; value = v }) (record { key = k; value = w }) (sym p ∙ q))
+full_key {V} s j k v w p q = ap (λ (r : Record V). r.key) (same_Some (record { key = j; value = v }) (record { key = k; value = w }) (sym p ∙ q))
 
 -- an empty slot has no key, and a full one no other
 pub empty_misses : {V : Type 0} (s : Slot V) (k : Key) → s ≡ Empty → Misses s k

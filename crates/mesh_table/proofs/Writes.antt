@@ -5,9 +5,9 @@ use Rattle.std.proofs.lemmas.Bool.{cases_eq}
 use Rattle.mesh_table.specs.declared.key.Key.{Key}
 use Rattle.mesh_table.specs.Probing.{Slot, Empty, Full, slot_at, slot_ahead, home_slot, filled, size, lookup, Misses, Distinct, Reached, Has, Sound, Holed, Alike, Becomes, EndsAt, Cut}
 use Rattle.mesh_table.proofs.Steps.{ahead_onto, ahead_below, ahead_same, home_below}
-use Rattle.mesh_table.proofs.Absent.{within, vacant_misses}
+use Rattle.mesh_table.proofs.Absent.{vacant_misses}
 use Rattle.mesh_table.proofs.SlotCases.{empty_full, full_key, empty_misses, full_misses, foreign_full}
-use Rattle.mesh_table.proofs.Finite.{lookup_here, lookup_none, lookup_set_miss, size_set, slot_none, was, distinct_two}
+use Rattle.mesh_table.proofs.Finite.{full_inside, lookup_here, lookup_none, lookup_set_miss, size_set, slot_none, was, distinct_two}
 
 pub distinct_none : {V : Type 0} (n : ℕ) → Distinct (replicate {A = Slot V} n Empty)
 distinct_none n t = empty_full _ t.2 t.3 (slot_none n t.0) t.6
@@ -125,8 +125,8 @@ module _ {V : Type 0} (n : ℕ) (ss : List (Slot V)) (len : length ss ≡ n) (di
   module _ (pos : 0 < n) (re : Reached n ss) where
     pub took : (k : Key) (v : V) (i : ℕ) → EndsAt n ss k i → Took n ss (set ss i (Full k v)) k v
     took k v i (inl (has, at, there)) =
-        let lt = within n ss k len (home_below n k pos) i has.0 has.1 in
-        let l : i < length ss = omega arith in
+        let l = full_inside ss i k has.0 has.1 in
+        let lt : i < n = omega arith in
         let o = ahead_onto n (home_slot n k) i (home_below n k pos) lt in
         let p =
         put_full k v i lt (λ j ne u q. distinct_two ss k j i u has.0 dis ne q has.1)
@@ -156,8 +156,8 @@ module _ {V : Type 0} (n : ℕ) (ss : List (Slot V)) (len : length ss ≡ n) (di
 
     pub emptied : (k : Key) (i : ℕ) → Has (slot_at ss i) k → Emptied n ss (set ss i Empty) k i
     emptied k i has =
-        let lt = within n ss k len (home_below n k pos) i has.0 has.1 in
-        let l : i < length ss = omega arith in
+        let l = full_inside ss i k has.0 has.1 in
+        let lt : i < n = omega arith in
         let e = put_empty k has.0 i lt has.1 in
         record {
           holed = record {

@@ -62,7 +62,8 @@ impl<V: Copy, const N: usize> Ring<V, N> {
         }
     }
 
-    // Goes from the key's home to the key, or else to the first empty slot. What is counted are the steps: the ring knows the slot.
+    // Goes from the key's home to the key, or else to the first empty slot. The loop counts steps: from any home, N of them come
+    // to every slot.
     pub(crate) fn probe(&self, key: Key) -> Probe<N>
         ensures { Probed N self.now.array key result }
     {

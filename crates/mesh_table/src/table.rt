@@ -4,6 +4,7 @@ ghost use Rattle.mesh_table.specs.Probing.{size};
 use crate::slots::Slots;
 
 mod lookup;
+mod show;
 mod start;
 mod update;
 
