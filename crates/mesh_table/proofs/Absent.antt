@@ -1,10 +1,10 @@
 -- What a search that ends without its key has shown: that no slot has the key.
-use Rattle.std.proofs.Common.{◌≡◌, ℕ, ◌<◌, List, length, is_some, Some, sym, ap, ◌∙◌, ⊎_elim, arith}
+use Rattle.std.proofs.Common.{◌≡◌, ℕ, ◌<◌, List, length, is_some, Some, None, sym, ap, ◌∙◌, ⊎_elim, arith}
 use Rattle.std.proofs.lemmas.Bool.{cases_order}
 use Rattle.mesh_table.specs.declared.key.Key.{Key}
 use Rattle.mesh_table.specs.declared.ring.Probe.{Probe}
 use Rattle.mesh_table.specs.declared.ring.Probe.TheVariants.{Found, Vacant, Exhausted}
-use Rattle.mesh_table.specs.Probing.{Slot, Empty, Full, slot_at, slot_ahead, home_slot, filled, size, lookup, value_in, Misses, Passed, Distinct, Reached, Probed, Sought}
+use Rattle.mesh_table.specs.Probing.{Slot, holding, slot_at, slot_ahead, home_slot, filled, size, lookup, value_in, Misses, Passed, Distinct, Reached, Probed, Sought}
 use Rattle.mesh_table.proofs.Steps.{ahead_onto}
 use Rattle.mesh_table.proofs.SlotCases.{empty_full, foreign_misses, foreign_filled}
 use Rattle.mesh_table.proofs.Finite.{full_inside, size_full, lookup_none, lookup_here}
@@ -24,11 +24,11 @@ module _ {V : Type 0} (n : ℕ) (ss : List (Slot V)) (k : Key) (len : length ss 
           ap (λ (x : ℕ). filled (slot_at ss x)) (sym o.2) ∙ foreign_filled _ k (passed o.0 o.1)
 
   pub vacant_misses :
-      Reached n ss → (d : ℕ) → slot_at ss (slot_ahead n (home_slot n k) d) ≡ Empty → Passed n ss k d
+      Reached n ss → (d : ℕ) → slot_at ss (slot_ahead n (home_slot n k) d) ≡ None → Passed n ss k d
       → (j : ℕ) → Misses (slot_at ss j) k
   vacant_misses reach d emp passed j v p =
       let o = ahead_onto n (home_slot n k) j hn (omega (arith, full_inside ss j k v p)) in
-      let here : slot_at ss (slot_ahead n (home_slot n k) o.0) ≡ Full k v = ap (slot_at ss) o.2 ∙ p in
+      let here : slot_at ss (slot_ahead n (home_slot n k) o.0) ≡ holding k v = ap (slot_at ss) o.2 ∙ p in
       ⊎_elim
       (λ (q : o.0 ≡ d).
       empty_full (slot_at ss (slot_ahead n (home_slot n k) d)) k v emp

@@ -5,7 +5,7 @@ use Rattle.std.proofs.lemmas.Bool.{cases_lt, and_parts, and_cases, eqb-true, eqb
 use Rattle.mesh_table.specs.declared.key.Key.{Key}
 use Rattle.mesh_table.specs.declared.ring.Record.{Record}
 use Rattle.mesh_table.specs.Keys.{vertex_key}
-use Rattle.mesh_table.specs.Probing.{Slot, Full, slot_at, lookup, Distinct}
+use Rattle.mesh_table.specs.Probing.{Slot, holding, slot_at, lookup, Distinct}
 use Rattle.mesh_table.specs.LowestVertex.{bound, lower, LowestIn}
 use Rattle.mesh_table.proofs.Keys.{key_parts}
 use Rattle.mesh_table.proofs.SlotCases.{empty_full, full_key}
@@ -14,7 +14,7 @@ use Rattle.mesh_table.proofs.Finite.{full_inside, lookup_none, lookup_here}
 -- what is known of the lowest record among the first i slots
 pub record Near {V : Type 0} (ss : List (Slot V)) (i m : ℕ) (b : Option (Record V)) : Type 0 where
   pub within : bound b m ≤ m
-  pub lowest : (j n : ℕ) (v : V) → j < i → slot_at ss j ≡ Full (vertex_key n) v → n ≤ m → (bound b m ≤ n) × (b ≡ None → ⊥)
+  pub lowest : (j n : ℕ) (v : V) → j < i → slot_at ss j ≡ holding (vertex_key n) v → n ≤ m → (bound b m ≤ n) × (b ≡ None → ⊥)
   pub here : (r : Record V) → b ≡ Some r → lookup ss (vertex_key r.key.first) ≡ Some r.value
 
 last : (j i : ℕ) → j < i + 1 → (j < i) ⊎ (j ≡ i)
@@ -23,7 +23,7 @@ last j i l = ⊎_elim (λ (x : j < i). inl x) (λ (x : i ≤ j). inr (omega arit
 module _ {V : Type 0} (ss : List (Slot V)) (i m : ℕ) (b : Option (Record V)) (a : Distinct ss) (near : Near ss i m b) where
   -- the lowest record stays
   stays :
-      ((n : ℕ) (v : V) → slot_at ss i ≡ Full (vertex_key n) v → n ≤ m → (bound b m ≤ n) × (b ≡ None → ⊥))
+      ((n : ℕ) (v : V) → slot_at ss i ≡ holding (vertex_key n) v → n ≤ m → (bound b m ≤ n) × (b ≡ None → ⊥))
       → Near ss (i + 1) m b
   stays here =
       record {
@@ -48,7 +48,7 @@ module _ {V : Type 0} (ss : List (Slot V)) (i m : ℕ) (b : Option (Record V)) (
       }
     where
       low :
-          (j n : ℕ) (w : V) → j < i + 1 → slot_at ss j ≡ Full (vertex_key n) w → n ≤ m → r.key.first ≤ bound b m
+          (j n : ℕ) (w : V) → j < i + 1 → slot_at ss j ≡ holding (vertex_key n) w → n ≤ m → r.key.first ≤ bound b m
           → r.key.first ≤ n
       low j n w x y le l =
           elim (last j i x) [
@@ -83,7 +83,7 @@ module _ {V : Type 0} (ss : List (Slot V)) (n m : ℕ) (len : length ss ≡ n) w
   pub near_some : (r : Record V) → Near ss n m (Some r) → LowestIn ss m (Some r.value)
   near_some r near = (r.key.first, near.within, near.here r refl, λ q l. lookup_none ss (vertex_key q) (λ j w p. far q l j w p))
     where
-      far : (q : ℕ) → q < r.key.first → (j : ℕ) (w : V) → slot_at ss j ≡ Full (vertex_key q) w → ⊥
+      far : (q : ℕ) → q < r.key.first → (j : ℕ) (w : V) → slot_at ss j ≡ holding (vertex_key q) w → ⊥
       far q l j w p =
           let e = (near.lowest j q w (omega (arith, full_inside ss j (vertex_key q) w p)) p (let x = near.within in omega arith)).0 in
           omega arith

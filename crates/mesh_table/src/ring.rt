@@ -6,6 +6,7 @@ use crate::number::SlotNumber;
 
 mod shift;
 
+// A record in a slot: what the table keeps, the value, beside the key at which it keeps it, by which a search knows it.
 #[derive(Clone, Copy)]
 pub(crate) struct Record<V> {
     pub(crate) key: Key,
