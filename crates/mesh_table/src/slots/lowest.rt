@@ -23,6 +23,7 @@ fn lower<V: Copy>(
     }
 }
 
+// A loop, since with `iter().flatten().filter(..).min_by_key(..)` the proof did not close.
 fn lowest_of<V: Copy>(slots: &[Option<Record<V>>], most: u32) -> Option<V>
     requires { Distinct slots.now }
     ensures { LowestIn slots.now most result }
