@@ -2,7 +2,7 @@
 use Rattle.std.proofs.Common.{◌≡◌, ℕ, ◌+◌, ◌-◌, ◌<◌, ◌≤◌, Bool, true, false, cond, ◌&&◌, eqb, ltb, leb, ◌⊎◌, List, [], ◌∷◌, ◌++◌, is_some, Some, None, Ok, Err, Option, Result, sym, refl, ap, ◌∙◌, subst, inl, inr, arith, rules}
 use Rattle.std.specs.Option.{ok_or}
 use Rattle.std.specs.Result.{IsOk}
-use Rattle.std.proofs.lemmas.Option.{none-some}
+use Rattle.std.proofs.lemmas.Option.{none-some, same_Some}
 use Rattle.std.proofs.lemmas.Bool.{eqb-true, eqb-false, and_parts, and_from, both_ways, leb-true, le-leb, ltb-true, lt-ltb, le-ltb}
 use Rattle.mesh_stream.specs.declared.event.Point.{Point}
 use Rattle.mesh_stream.specs.declared.event.Event.{Event}
@@ -25,7 +25,7 @@ use Rattle.mesh_judge.specs.declared.live.Live.{Live}
 use Rattle.mesh_judge.specs.declared.live.Corners.{Corners}
 use Rattle.mesh_judge.specs.declared.judge.Judge.{Judge}
 use Rattle.mesh_judge.specs.Accepting.{unless, refusal}
-use Rattle.mesh_judge.specs.Windows.{Window, fresh, put, there, refuses, enters, counted, leaves, first, end_by, ending, Knows}
+use Rattle.mesh_judge.specs.Windows.{Window, fresh, put, refuses, enters, counted, leaves, first, end_by, ending, Knows}
 use Rattle.mesh_judge.specs.Records.{sound_record, Stray}
 use Rattle.mesh_judge.specs.Judging.{window_of, live_limit, KnowsList, Begun, Accepts, Rejects, KeptAt, Cornered, CornersFound, TakenOut, Left, Stands}
 use Rattle.mesh_judge.proofs.Refusing.{unless_none}
@@ -100,16 +100,13 @@ none_above {T} t highest m sound l h = at (at_in t m) refl h
 no_stray : {T : Type 0} {n : ℕ} (t : Table (Live T) n) (highest : ℕ) → ((k : Key) (v : Live T) → record_at t k ≡ Some v → sound_record highest k v ≡ true) → Stray t highest → ⊥
 no_stray t highest h (k, v, e, f) = both_ways (sound_record highest k v) f (h k v e)
 
-some_same : {A : Type 0} (x y : A) → Some x ≡ Some y → x ≡ y
-some_same x y e = cc
-
 module _ {T : Type 0} {n : ℕ} (t u : Table (Live T) n) (highest : ℕ) (sound : Stray t highest → ⊥) where
   pub entered_stray : (m : ℕ) (x : Live T) → highest < m → in_space x.at ≡ true → Sets t u (vertex_key m) (Some x) → Stray u m → ⊥
   entered_stray m x l s c = no_stray u m (λ k v e. at k v e (key_cases k (vertex_key m)))
     where
       at : (k : Key) (v : Live T) → record_at u k ≡ Some v → (k ≡ vertex_key m) ⊎ (k ≡ vertex_key m → ⊥) → sound_record m k v ≡ true
       at k v e (inl q) =
-          let f : x ≡ v = some_same x v (sym c.here ∙ ap (record_at u) (sym q) ∙ e) in
+          let f : x ≡ v = same_Some x v (sym c.here ∙ ap (record_at u) (sym q) ∙ e) in
           and_from _ _ (ap (λ (z : Live T). in_space z.at) (sym f) ∙ s) (ap (λ (z : Key). leb z.first m) q ∙ le-leb m m (omega arith))
       at k v e (inr q) =
           let a = kept_sound t highest sound k v (sym (c.other k q) ∙ e) in
@@ -174,12 +171,12 @@ not_refused j u n x q (Err o) e r h = absurd (at o h)
 -- A triangle.
 
 module _ {T : Type 0} (limit : ℕ) (w : Window T) (p a b c : ℕ) where
-  pub refuses_corner : (there (w.at a) && there (w.at b) && there (w.at c)) ≡ false → refuses limit w (Triangle p a b c) ≡ Some CornerNotLive
+  pub refuses_corner : (is_some (w.at a) && is_some (w.at b) && is_some (w.at c)) ≡ false → refuses limit w (Triangle p a b c) ≡ Some CornerNotLive
   refuses_corner h = ap (λ z. unless z CornerNotLive (unless (ltb w.triangles 100000000) TooManyTriangles None)) h
 
   module _ (s : Corners T) (f : CornersFound w a b c (Ok s)) where
     all_there : refuses limit w (Triangle p a b c) ≡ unless (ltb w.triangles 100000000) TooManyTriangles None
-    all_there = λ i. unless (there (f.0 i) && there (f.1 i) && there (f.2 i)) CornerNotLive (unless (ltb w.triangles 100000000) TooManyTriangles None)
+    all_there = λ i. unless (is_some (f.0 i) && is_some (f.1 i) && is_some (f.2 i)) CornerNotLive (unless (ltb w.triangles 100000000) TooManyTriangles None)
 
     pub refuses_many : 100000000 ≤ w.triangles → refuses limit w (Triangle p a b c) ≡ Some TooManyTriangles
     refuses_many l = all_there ∙ ap (λ z. unless z TooManyTriangles None) (le-ltb w.triangles 100000000 l)
@@ -187,18 +184,18 @@ module _ {T : Type 0} (limit : ℕ) (w : Window T) (p a b c : ℕ) where
     pub refuses_no_triangle : w.triangles < 100000000 → refuses limit w (Triangle p a b c) ≡ None
     refuses_no_triangle l = all_there ∙ ap (λ z. unless z TooManyTriangles None) (lt-ltb w.triangles 100000000 l)
 
-pub first_gone : {A : Type 0} (x y z : Option A) → x ≡ None → (there x && there y && there z) ≡ false
-first_gone {A} x y z e = ap (λ (o : Option A). there o && there y && there z) e
+pub first_gone : {A : Type 0} (x y z : Option A) → x ≡ None → (is_some x && is_some y && is_some z) ≡ false
+first_gone {A} x y z e = ap (λ (o : Option A). is_some o && is_some y && is_some z) e
 
-pub second_gone : {A : Type 0} (x y z : Option A) → y ≡ None → (there x && there y && there z) ≡ false
-second_gone {A} x y z e = ap (λ (o : Option A). there x && there o && there z) e ∙ at (there x)
+pub second_gone : {A : Type 0} (x y z : Option A) → y ≡ None → (is_some x && is_some y && is_some z) ≡ false
+second_gone {A} x y z e = ap (λ (o : Option A). is_some x && is_some o && is_some z) e ∙ at (is_some x)
   where
-    at : (b : Bool) → (b && false && there z) ≡ false
+    at : (b : Bool) → (b && false && is_some z) ≡ false
     at true = refl
     at false = refl
 
-pub third_gone : {A : Type 0} (x y z : Option A) → z ≡ None → (there x && there y && there z) ≡ false
-third_gone {A} x y z e = ap (λ (o : Option A). there x && there y && there o) e ∙ at (there x && there y)
+pub third_gone : {A : Type 0} (x y z : Option A) → z ≡ None → (is_some x && is_some y && is_some z) ≡ false
+third_gone {A} x y z e = ap (λ (o : Option A). is_some x && is_some y && is_some o) e ∙ at (is_some x && is_some y)
   where
     at : (b : Bool) → (b && false) ≡ false
     at true = refl
@@ -216,7 +213,7 @@ module _ {T : Type 0} (j k : Judge T) (p i : ℕ) where
   pub left : (x : Live T) → TakenOut j i (Some x) k → Accepts j (Finalization p i) (leaves (window_of j) i) k × ((window_of j).at i ≡ Some x) × ((window_of k).live_count + 1 ≡ (window_of j).live_count)
   left x t =
       let e : (window_of j).at i ≡ Some x = ap (record_at j.live) (sym t.key_is) ∙ sym t.table.0 in (
-        accepts_final j k t.table.2.limit p i (ap (λ (o : Option (Live T)). unless (there o) NotLive None) e)
+        accepts_final j k t.table.2.limit p i (ap (λ (o : Option (Live T)). unless (is_some o) NotLive None) e)
             (windows_same (window_of k) (leaves (window_of j) i) (elsewhere j.live k.live i None (subst (λ (z : Key). Sets j.live k.live z None) t.key_is t.table.2)) (less (records k.live) (records j.live) t.table.1) t.highest t.triangles),
         e,
         t.table.1,
@@ -229,7 +226,7 @@ module _ {T : Type 0} (j k : Judge T) (p i : ℕ) where
   not_left t =
       let s : Sets j.live k.live (vertex_key i) None = subst (λ (z : Key). Sets j.live k.live z None) t.key_is t.table.2 in
       let e : (window_of j).at i ≡ None = ap (record_at j.live) (sym t.key_is) ∙ sym t.table.0 in
-      rejects j k s.limit (Finalization p i) NotLive (ap (λ (o : Option (Live T)). unless (there o) NotLive None) e)
+      rejects j k s.limit (Finalization p i) NotLive (ap (λ (o : Option (Live T)). unless (is_some o) NotLive None) e)
       (windows_same (window_of k) (window_of j) (λ n. elsewhere j.live k.live i None s n ∙ put_same n (eqb n i) refl e) (same (records k.live) (records j.live) t.table.1) t.highest t.triangles)
     where
       same : (m n : ℕ) → m + 0 ≡ n → m ≡ n

@@ -1,5 +1,6 @@
 -- A window that knows a list of accepted events judges as the list does, and knows the list with one event more.
-use Rattle.std.proofs.Common.{◌≡◌, ℕ, zero, suc, ◌+◌, ◌-◌, ◌<◌, ◌≤◌, min, max, Bool, true, false, cond, not, ◌&&◌, ◌||◌, eqb, ltb, leb, ◌⊎◌, List, [], ◌∷◌, ◌++◌, length, Some, None, filter, Option, sym, refl, ap, ◌∙◌, subst, inl, inr, append_assoc, append-nil, arith, length-append}
+use Rattle.std.proofs.Common.{◌≡◌, ℕ, zero, suc, ◌+◌, ◌-◌, ◌<◌, ◌≤◌, min, max, Bool, true, false, cond, not, ◌&&◌, ◌||◌, eqb, ltb, leb, ◌⊎◌, List, [], ◌∷◌, ◌++◌, length, is_some, Some, None, filter, Option, sym, refl, ap, ◌∙◌, subst, inl, inr, append_assoc, append-nil, arith, length-append}
+use Rattle.std.specs.Option.{option_or}
 use Rattle.std.proofs.lemmas.Option.{none-some}
 use Rattle.std.proofs.lemmas.Bool.{both_ways, ltb-true, lt-ltb, ltb-false, le-ltb, leb-true, leb-false, and_parts, eqb-true, eq-eqb, or_cases, or_right, or_parts, false_from_ne_true}
 use Rattle.std.proofs.lemmas.List.Folds.{list_any-append}
@@ -20,7 +21,7 @@ use Rattle.mesh_stream.proofs.Views.{introduced_v, introduced_t, introduced_f, t
 use Rattle.mesh_stream.proofs.Distinct.{Distinct, distinct_kept, eqb_comm}
 use Rattle.mesh_judge.specs.declared.live.Live.{Live}
 use Rattle.mesh_judge.specs.Accepting.{Rules, unless, refusal, AcceptedAfter, fault, lowest, end_with, stands_over}
-use Rattle.mesh_judge.specs.Windows.{Window, fresh, there, refuses, enters, counted, leaves, or_next, first, end_by, ending, Origin, origin, origin_by, origin_in, largest, Knows}
+use Rattle.mesh_judge.specs.Windows.{Window, fresh, refuses, enters, counted, leaves, first, end_by, ending, Origin, origin, origin_by, origin_in, largest, Knows}
 use Rattle.mesh_judge.proofs.Refusing.{VertexOk, vertex_ok, final_ok}
 use Rattle.mesh_judge.proofs.Living.{live_introduced, live_vertex, live_triangle, live_final}
 use Rattle.mesh_judge.proofs.Sounding.{sound, new_not_final}
@@ -30,11 +31,11 @@ use Rattle.mesh_judge.proofs.Sounding.{sound, new_not_final}
 unless_cong : (b c : Bool) (x : Cause) (o q : Option Cause) → b ≡ c → o ≡ q → unless b x o ≡ unless c x q
 unless_cong b c x o q p r = ap (λ z. unless z x o) p ∙ ap (unless c x) r
 
-there_origin : {T : Type 0} (o : Option (Live T)) → there (origin o) ≡ there o
+there_origin : {T : Type 0} (o : Option (Live T)) → is_some (origin o) ≡ is_some o
 there_origin None = refl
 there_origin (Some v) = refl
 
-there_cond : {A : Type 0} (b : Bool) (x : A) → there (cond b (Some x) None) ≡ b
+there_cond : {A : Type 0} (b : Bool) (x : A) → is_some (cond b (Some x) None) ≡ b
 there_cond true x = refl
 there_cond false x = refl
 
@@ -68,7 +69,7 @@ at_least_one n v h = leb-true 1 n (and_parts (leb 1 n) (leb n 100000000) (and_pa
 -- The first of a function's values.
 pub first_none : {A : Type 0} (f : ℕ → Option A) (k : ℕ) → ((n : ℕ) → n ≤ k → f n ≡ None) → first f k ≡ None
 first_none f zero h = h 0 (omega arith)
-first_none {A} f (suc k) h = ap (λ (z : Option A). or_next z (f (suc k))) (first_none f k (λ n l. h n (omega arith))) ∙ h (suc k) (omega arith)
+first_none {A} f (suc k) h = ap (λ (z : Option A). option_or z (f (suc k))) (first_none f k (λ n l. h n (omega arith))) ∙ h (suc k) (omega arith)
 
 pub first_some : {A : Type 0} (f : ℕ → Option A) (k n : ℕ) (x : A) → n ≤ k → f n ≡ Some x → ((m : ℕ) → m < n → f m ≡ None) → first f k ≡ Some x
 first_some f zero n x le e h = subst (λ (z : ℕ). f z ≡ Some x) (zero_only n le) e
@@ -79,13 +80,13 @@ first_some {A} f (suc k) n x le e h = at (leb n k) refl (λ l. first_some f k n 
   where
     below : (j : ℕ) → j < n → first f j ≡ None
     below zero l = h 0 l
-    below (suc j) l = ap (λ (z : Option A). or_next z (f (suc j))) (below j (omega arith)) ∙ h (suc j) l
+    below (suc j) l = ap (λ (z : Option A). option_or z (f (suc j))) (below j (omega arith)) ∙ h (suc j) l
 
     at : (b : Bool) → leb n k ≡ b → (n ≤ k → first f k ≡ Some x) → first f (suc k) ≡ Some x
-    at true q ih = ap (λ (z : Option A). or_next z (f (suc k))) (ih (leb-true n k q))
+    at true q ih = ap (λ (z : Option A). option_or z (f (suc k))) (ih (leb-true n k q))
     at false q ih =
         let l : k < n = leb-false n k q in
-        ap (λ (z : Option A). or_next z (f (suc k))) (below k l) ∙ subst (λ (z : ℕ). f z ≡ Some x) (last l) e
+        ap (λ (z : Option A). option_or z (f (suc k))) (below k l) ∙ subst (λ (z : ℕ). f z ≡ Some x) (last l) e
       where
         last : k < n → n ≡ suc k
         last l = omega arith
@@ -133,8 +134,8 @@ origin_none None e = refl
 origin_none (Some v) e = absurd (none-some _ (sym e))
 
 module _ {T : Type 0} (limit : ℕ) (w : Window T) (es : List Event) (k : Knows limit w es) where
-  there_is : (n : ℕ) → there (w.at n) ≡ is_live es n
-  there_is n = sym (there_origin (w.at n)) ∙ ap there (k.at n) ∙ there_cond (is_live es n) _
+  there_is : (n : ℕ) → is_some (w.at n) ≡ is_live es n
+  there_is n = sym (there_origin (w.at n)) ∙ ap is_some (k.at n) ∙ there_cond (is_live es n) _
 
   -- What the window has at a live number, and that it has nothing at any other.
   pub at_live : (n : ℕ) → is_live es n ≡ true → (v : Live T) × (w.at n ≡ Some v) × (v.place ≡ birthplace es n) × (v.at ≡ point es n)
@@ -156,7 +157,7 @@ module _ {T : Type 0} (limit : ℕ) (w : Window T) (es : List Event) (k : Knows 
       at false h = refl
   refuses_is (Triangle p a b c) =
       unless_cong _ _ CornerNotLive _ _
-      (ap (λ z. z && there (w.at b) && there (w.at c)) (there_is a) ∙ ap (λ z. is_live es a && z && there (w.at c)) (there_is b) ∙ ap (λ z. is_live es a && is_live es b && z) (there_is c))
+      (ap (λ z. z && is_some (w.at b) && is_some (w.at c)) (there_is a) ∙ ap (λ z. is_live es a && z && is_some (w.at c)) (there_is b) ∙ ap (λ z. is_live es a && is_live es b && z) (there_is c))
       (ap (λ (z : ℕ). unless (ltb z 100000000) TooManyTriangles None) k.triangles)
   refuses_is (Finalization p i) = ap (λ z. unless z NotLive None) (there_is i)
 

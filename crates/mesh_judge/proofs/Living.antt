@@ -1,6 +1,6 @@
 -- Live vertices after one event more.
 use Rattle.std.proofs.Common.{◌≡◌, ℕ, Bool, true, false, cond, not, ◌&&◌, ◌||◌, eqb, List, [], ◌∷◌, ◌++◌, filter, refl, ap, ◌∙◌, append-nil}
-use Rattle.std.proofs.lemmas.List.Elements.{filter-append}
+use Rattle.std.proofs.lemmas.List.Elements.{filter-append, filter_agree}
 use Rattle.mesh_stream.specs.declared.event.Point.{Point}
 use Rattle.mesh_stream.specs.declared.event.Event.{Event}
 use Rattle.mesh_stream.specs.declared.event.Event.TheVariants.{Vertex, Triangle, Finalization}
@@ -15,10 +15,6 @@ pub live_introduced : (es : List Event) (n : ℕ) → is_live es n ≡ true → 
 live_introduced es n h = kept_within (λ m. not (has m (finalized es))) (introduced es) n h
 
 -- live after one event more
-kept_cong : (p q : ℕ → Bool) → ((n : ℕ) → p n ≡ q n) → (xs : List ℕ) → filter p xs ≡ filter q xs
-kept_cong p q h [] = refl
-kept_cong p q h (x ∷ xs) = ap (λ b. cond b (x ∷ filter p xs) (filter p xs)) (h x) ∙ ap (λ (z : List ℕ). cond (q x) (x ∷ z) z) (kept_cong p q h xs)
-
 kept_twice : (p q : ℕ → Bool) (xs : List ℕ) → filter (λ n. q n && p n) xs ≡ filter p (filter q xs)
 kept_twice p q [] = refl
 kept_twice p q (x ∷ xs) = at (q x) refl (kept_twice p q xs)
@@ -55,5 +51,5 @@ pub live_final : (es : List Event) (l i : ℕ) → live (es ++ (Finalization l i
 live_final es l i =
     ap (λ (fs : List ℕ). filter (λ m. not (has m fs)) (introduced (es ++ (Finalization l i ∷ [])))) (finalized-++ es (Finalization l i ∷ []))
     ∙ ap (filter (λ m. not (has m (finalized es ++ (i ∷ []))))) (introduced-++ es (Finalization l i ∷ []) ∙ append-nil (introduced es))
-    ∙ kept_cong _ _ (λ m. has_pushed m i (finalized es)) (introduced es)
+    ∙ filter_agree _ _ (λ m. has_pushed m i (finalized es)) (introduced es)
     ∙ kept_twice (λ n. not (eqb n i)) (λ m. not (has m (finalized es))) (introduced es)

@@ -1,5 +1,5 @@
 -- What a judge's calls do: j is the judge before the call, k after it.
-use Rattle.std.specs.Prelude.{◌≡◌, ℕ, ◌+◌, ◌<◌, ◌≤◌, true, false, ◌&&◌, List, [], ◌∷◌, ◌++◌, Some, None, Ok, Err, Option, Result}
+use Rattle.std.specs.Prelude.{◌≡◌, ℕ, ◌+◌, ◌<◌, ◌≤◌, true, false, ◌&&◌, List, [], ◌∷◌, ◌++◌, is_some, Some, None, Ok, Err, Option, Result}
 use Rattle.mesh_stream.specs.declared.event.Event.{Event}
 use Rattle.mesh_stream.specs.declared.event.Event.TheVariants.{Vertex, Triangle, Finalization}
 use Rattle.mesh_stream.specs.declared.fault.Cause.{Cause}
@@ -14,7 +14,7 @@ use Rattle.mesh_judge.specs.declared.live.Live.{Live}
 use Rattle.mesh_judge.specs.declared.live.Corners.{Corners}
 use Rattle.mesh_judge.specs.declared.judge.Judge.{Judge}
 use Rattle.mesh_judge.specs.Accepting.{refusal, stands_over}
-use Rattle.mesh_judge.specs.Windows.{Window, fresh, there, refuses, enters, counted, leaves, ending, Knows}
+use Rattle.mesh_judge.specs.Windows.{Window, fresh, refuses, enters, counted, leaves, ending, Knows}
 
 abbrev pub window_of : {T : Type 0} → Judge T → Window T
 window_of j = record {
@@ -73,7 +73,7 @@ CornerFound o (Err q) = (o ≡ None) × (q ≡ CornerNotLive)
 
 abbrev pub CornersFound : {T : Type 0} → Window T → ℕ → ℕ → ℕ → Result (Corners T) Cause → Type 0
 CornersFound w a b c (Ok s) = (w.at a ≡ Some s.a) × (w.at b ≡ Some s.b) × (w.at c ≡ Some s.c)
-CornersFound w a b c (Err q) = ((there (w.at a) && there (w.at b) && there (w.at c)) ≡ false) × (q ≡ CornerNotLive)
+CornersFound w a b c (Err q) = ((is_some (w.at a) && is_some (w.at b) && is_some (w.at c)) ≡ false) × (q ≡ CornerNotLive)
 
 abbrev pub TriangleCounted : {T : Type 0} → Window T → Result (Unit {0}) Cause → Window T → Type 0
 TriangleCounted w (Ok _) u = (w.triangles < 100000000) × (u ≡ counted w)

@@ -1,5 +1,6 @@
 -- What a judge keeps of the events that it accepted, its window, and judging by the window alone.
-use Rattle.std.specs.Prelude.{◌≡◌, ℕ, zero, suc, ◌+◌, ◌-◌, max, Bool, true, false, cond, ◌&&◌, List, [], ◌∷◌, length, Some, None, Option, ◌==◌, nat_lt}
+use Rattle.std.specs.Prelude.{◌≡◌, ℕ, zero, suc, ◌+◌, ◌-◌, max, cond, ◌&&◌, List, [], ◌∷◌, length, is_some, Some, None, Option, ◌==◌, nat_lt}
+use Rattle.std.specs.Option.{option_or}
 use Rattle.mesh_stream.specs.declared.event.Point.{Point}
 use Rattle.mesh_stream.specs.declared.event.Event.{Event}
 use Rattle.mesh_stream.specs.declared.event.Event.TheVariants.{Vertex, Triangle, Finalization}
@@ -25,10 +26,6 @@ pub record Window (T : Type 0) : Type 0 where
 abbrev pub fresh : {T : Type 0} → Window T
 fresh = record { at = λ n. None; live_count = 0; highest = 0; triangles = 0 }
 
-abbrev pub there : {A : Type 0} → Option A → Bool
-there (Some x) = true
-there None = false
-
 -- Why an event is refused, by the window.
 abbrev pub refuses : {T : Type 0} → ℕ → Window T → Event → Option Cause
 refuses limit w (Vertex p n v) =
@@ -36,9 +33,9 @@ refuses limit w (Vertex p n v) =
     (unless (nat_lt w.highest n) NotRising
     (unless (nat_lt w.live_count limit) TooManyLive None))
 refuses limit w (Triangle p a b c) =
-    unless (there (w.at a) && there (w.at b) && there (w.at c)) CornerNotLive
+    unless (is_some (w.at a) && is_some (w.at b) && is_some (w.at c)) CornerNotLive
     (unless (nat_lt w.triangles 100000000) TooManyTriangles None)
-refuses limit w (Finalization p i) = unless (there (w.at i)) NotLive None
+refuses limit w (Finalization p i) = unless (is_some (w.at i)) NotLive None
 
 -- a function changed at one number
 abbrev pub put : {A : Type 0} → (ℕ → A) → ℕ → A → ℕ → A
@@ -54,14 +51,10 @@ counted w = record { at = w.at; live_count = w.live_count; highest = w.highest; 
 abbrev pub leaves : {T : Type 0} → Window T → ℕ → Window T
 leaves w i = record { at = put w.at i None; live_count = w.live_count - 1; highest = w.highest; triangles = w.triangles }
 
--- The first of the numbers 0 to k at which there is something.
-abbrev pub or_next : {A : Type 0} → Option A → Option A → Option A
-or_next (Some x) o = Some x
-or_next None o = o
-
+-- What is at the first of the numbers 0 to k at which there is something.
 abbrev pub first : {A : Type 0} → (ℕ → Option A) → ℕ → Option A
 first f zero = f 0
-first f (suc k) = or_next (first f k) (f (suc k))
+first f (suc k) = option_or (first f k) (f (suc k))
 
 abbrev pub end_by : {T : Type 0} → LayerName → Option (Live T) → Standing
 end_by layer None = Ended

@@ -17,7 +17,7 @@ const SLOTS: usize = 2048;
 #[derive(Drop)]
 pub struct Judge<T> {
     live: Table<Live<T>, SLOTS>,
-    // of the vertices so far; 0 before the first
+    // of the vertices so far; 0 before the first, which says no less than None would: a number must be above it
     highest: u32,
     triangles: u32,
     ghost sound: { Stray live highest → ⊥ },

@@ -1,24 +1,18 @@
 -- What a search that ends without its key has shown: that no slot has the key.
-use Rattle.std.proofs.Common.{◌≡◌, ℕ, ◌<◌, ◌≤◌, List, length, is_some, Some, sym, ap, ◌∙◌, ⊎_elim, arith}
-use Rattle.std.proofs.lemmas.List.{get_or_past}
-use Rattle.std.proofs.lemmas.Bool.{cases_lt, cases_order}
+use Rattle.std.proofs.Common.{◌≡◌, ℕ, ◌<◌, List, length, is_some, Some, None, sym, ap, ◌∙◌, ⊎_elim, arith}
+use Rattle.std.proofs.lemmas.Bool.{cases_order}
 use Rattle.mesh_table.specs.declared.key.Key.{Key}
 use Rattle.mesh_table.specs.declared.ring.Probe.{Probe}
 use Rattle.mesh_table.specs.declared.ring.Probe.TheVariants.{Found, Vacant, Exhausted}
-use Rattle.mesh_table.specs.Probing.{Slot, Empty, Full, slot_at, slot_ahead, home_slot, filled, size, lookup, value_in, Misses, Passed, Distinct, Reached, Probed, Sought}
+use Rattle.mesh_table.specs.Probing.{Slot, holding, slot_at, slot_ahead, home_slot, filled, size, lookup, value_in, Misses, Passed, Distinct, Reached, Probed, Sought}
 use Rattle.mesh_table.proofs.Steps.{ahead_onto}
 use Rattle.mesh_table.proofs.SlotCases.{empty_full, foreign_misses, foreign_filled}
-use Rattle.mesh_table.proofs.Finite.{size_full, lookup_none, lookup_here}
+use Rattle.mesh_table.proofs.Finite.{full_inside, size_full, lookup_none, lookup_here}
 
 module _ {V : Type 0} (n : ℕ) (ss : List (Slot V)) (k : Key) (len : length ss ≡ n) (hn : home_slot n k < n) where
-  within : (j : ℕ) (v : V) → slot_at ss j ≡ Full k v → j < n
-  within j v p =
-      ⊎_elim (λ (l : j < n). l)
-      (λ (l : n ≤ j). absurd (empty_full (slot_at ss j) k v (get_or_past ss j Empty (omega arith)) p)) (cases_lt j n)
-
   pub exhausted_misses : Passed n ss k n → (j : ℕ) → Misses (slot_at ss j) k
   exhausted_misses passed j v p =
-      let o = ahead_onto n (home_slot n k) j hn (within j v p) in
+      let o = ahead_onto n (home_slot n k) j hn (omega (arith, full_inside ss j k v p)) in
       foreign_misses _ k (passed o.0 o.1) v (ap (slot_at ss) o.2 ∙ p)
 
   pub exhausted_size : Passed n ss k n → size ss ≡ n
@@ -30,11 +24,11 @@ module _ {V : Type 0} (n : ℕ) (ss : List (Slot V)) (k : Key) (len : length ss 
           ap (λ (x : ℕ). filled (slot_at ss x)) (sym o.2) ∙ foreign_filled _ k (passed o.0 o.1)
 
   pub vacant_misses :
-      Reached n ss → (d : ℕ) → slot_at ss (slot_ahead n (home_slot n k) d) ≡ Empty → Passed n ss k d
+      Reached n ss → (d : ℕ) → slot_at ss (slot_ahead n (home_slot n k) d) ≡ None → Passed n ss k d
       → (j : ℕ) → Misses (slot_at ss j) k
   vacant_misses reach d emp passed j v p =
-      let o = ahead_onto n (home_slot n k) j hn (within j v p) in
-      let here : slot_at ss (slot_ahead n (home_slot n k) o.0) ≡ Full k v = ap (slot_at ss) o.2 ∙ p in
+      let o = ahead_onto n (home_slot n k) j hn (omega (arith, full_inside ss j k v p)) in
+      let here : slot_at ss (slot_ahead n (home_slot n k) o.0) ≡ holding k v = ap (slot_at ss) o.2 ∙ p in
       ⊎_elim
       (λ (q : o.0 ≡ d).
       empty_full (slot_at ss (slot_ahead n (home_slot n k) d)) k v emp
@@ -45,7 +39,7 @@ module _ {V : Type 0} (n : ℕ) (ss : List (Slot V)) (k : Key) (len : length ss 
 
   pub sought : Distinct ss → Reached n ss → (r : Probe n) → Probed n ss k r → Sought n ss k r
   sought distinct reach (Found i) has =
-      let here : lookup ss k ≡ Some has.0 = lookup_here ss i.number k has.0 distinct has.1 in
+      let here : lookup ss k ≡ Some has.0 = lookup_here ss i k has.0 distinct has.1 in
       (has, here ∙ sym (ap value_in has.1), ap is_some here)
   sought distinct reach (Vacant i) vac = (
     vac,

@@ -4,14 +4,14 @@ use Rattle.std.proofs.lemmas.List.{get_or_past, get_or-set_same, get_or-set_othe
 use Rattle.std.proofs.lemmas.Bool.{cases_lt, cases_eq, cases_order, cases_Bool, cond-true, cond-false}
 use Rattle.mesh_table.specs.declared.key.Key.{Key}
 use Rattle.mesh_table.specs.Keys.{same_key}
-use Rattle.mesh_table.specs.Probing.{Slot, Empty, Full, slot_at, pick, lookup, filled, size, Misses, Distinct}
+use Rattle.mesh_table.specs.Probing.{Slot, holding, slot_at, pick, lookup, filled, size, Misses, Distinct}
 use Rattle.mesh_table.proofs.Keys.{same_key_refl, same_key_true}
 use Rattle.mesh_table.proofs.SlotCases.{empty_full}
 
 pick_miss : {V : Type 0} (s : Slot V) (k : Key) (o : Option V) → Misses s k → pick s k o ≡ o
 pick_miss None k o m = refl
 pick_miss (Some r) k o m =
-    ⊎_elim (λ (t : same_key r.key k ≡ true). absurd (m r.value (ap (λ (x : Key). Full x r.value) (same_key_true r.key k t))))
+    ⊎_elim (λ (t : same_key r.key k ≡ true). absurd (m r.value (ap (λ (x : Key). holding x r.value) (same_key_true r.key k t))))
     (λ (f : same_key r.key k ≡ false). cond-false (same_key r.key k) (Some r.value) o f) (cases_Bool (same_key r.key k))
 
 pub lookup_none : {V : Type 0} (ss : List (Slot V)) (k : Key) → ((j : ℕ) → Misses (slot_at ss j) k) → lookup ss k ≡ None
@@ -22,9 +22,9 @@ distinct_rest : {V : Type 0} (s : Slot V) (ss : List (Slot V)) → Distinct (s �
 distinct_rest s ss a t = a (suc t.0, suc t.1, t.2, t.3, t.4, omega (arith, t.5), t.6, t.7)
 
 pub lookup_here :
-    {V : Type 0} (ss : List (Slot V)) (i : ℕ) (k : Key) (v : V) → Distinct ss → slot_at ss i ≡ Full k v
+    {V : Type 0} (ss : List (Slot V)) (i : ℕ) (k : Key) (v : V) → Distinct ss → slot_at ss i ≡ holding k v
     → lookup ss k ≡ Some v
-lookup_here [] i k v a p = absurd (empty_full Empty k v refl p)
+lookup_here [] i k v a p = absurd (empty_full None k v refl p)
 lookup_here (s ∷ ss) zero k v a p =
     ap (λ (x : Slot _). pick x k (lookup ss k)) p ∙ cond-true (same_key k k) (Some v) (lookup ss k) (same_key_refl k)
 lookup_here (s ∷ ss) (suc i) k v a p =
@@ -53,25 +53,31 @@ pub size_full : {V : Type 0} (ss : List (Slot V)) → ((j : ℕ) → j < length 
 size_full [] f = refl
 size_full (s ∷ ss) f = omega (arith, f 0 (omega arith), size_full ss (λ j l. f (suc j) (omega arith)))
 
-pub size_none : (V : Type 0) (n : ℕ) → size (replicate {A = Slot V} n Empty) ≡ 0
+pub size_none : (V : Type 0) (n : ℕ) → size (replicate {A = Slot V} n None) ≡ 0
 size_none V zero = refl
 size_none V (suc n) = omega (arith, size_none V n)
 
-pub slot_none : {V : Type 0} (n j : ℕ) → slot_at (replicate {A = Slot V} n Empty) j ≡ Empty
+pub slot_none : {V : Type 0} (n j : ℕ) → slot_at (replicate {A = Slot V} n None) j ≡ None
 slot_none {V} n j =
-    ⊎_elim (λ (l : j < n). get_or-replicate n j Empty Empty l)
-    (λ (l : n ≤ j). get_or_past (replicate n Empty) j Empty (omega (arith, length-replicate {A = Slot V} n Empty))) (cases_lt j n)
+    ⊎_elim (λ (l : j < n). get_or-replicate n j None None l)
+    (λ (l : n ≤ j). get_or_past (replicate n None) j None (omega (arith, length-replicate {A = Slot V} n None))) (cases_lt j n)
+
+-- a full slot is one of the list
+pub full_inside : {V : Type 0} (ss : List (Slot V)) (j : ℕ) (k : Key) (v : V) → slot_at ss j ≡ holding k v → j < length ss
+full_inside ss j k v p =
+    ⊎_elim (λ (l : j < length ss). l)
+    (λ (l : length ss ≤ j). absurd (empty_full (slot_at ss j) k v (get_or_past ss j None l) p)) (cases_lt j (length ss))
 
 -- a slot after a write is what was written, or what it was
 pub was :
     {V : Type 0} (ss : List (Slot V)) (i : ℕ) (s : Slot V) (j : ℕ) (y : Slot V) → i < length ss → slot_at (set ss i s) j ≡ y
     → ((j ≡ i) × (s ≡ y)) ⊎ (slot_at ss j ≡ y)
 was ss i s j y l p =
-    ⊎_elim (λ (e : j ≡ i). inl (e, sym (ap (slot_at (set ss i s)) e ∙ get_or-set_same ss i s Empty l) ∙ p))
-    (λ (e : j ≡ i → ⊥). inr (sym (get_or-set_other ss i j s Empty e) ∙ p)) (cases_eq j i)
+    ⊎_elim (λ (e : j ≡ i). inl (e, sym (ap (slot_at (set ss i s)) e ∙ get_or-set_same ss i s None l) ∙ p))
+    (λ (e : j ≡ i → ⊥). inr (sym (get_or-set_other ss i j s None e) ∙ p)) (cases_eq j i)
 
 pub distinct_two :
-    {V : Type 0} (ss : List (Slot V)) (k : Key) (i j : ℕ) (v w : V) → Distinct ss → (i ≡ j → ⊥) → slot_at ss i ≡ Full k v
-    → slot_at ss j ≡ Full k w → ⊥
+    {V : Type 0} (ss : List (Slot V)) (k : Key) (i j : ℕ) (v w : V) → Distinct ss → (i ≡ j → ⊥) → slot_at ss i ≡ holding k v
+    → slot_at ss j ≡ holding k w → ⊥
 distinct_two ss k i j v w a ne p q =
     ⊎_elim ne (⊎_elim (λ (l : i < j). a (i, j, k, v, w, l, p, q)) (λ (l : j < i). a (j, i, k, w, v, l, q, p))) (cases_order i j)

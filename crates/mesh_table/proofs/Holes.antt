@@ -4,7 +4,7 @@ use Rattle.std.proofs.lemmas.List.{get_or-set_same, get_or-set_other}
 use Rattle.std.proofs.lemmas.Option.{none-some}
 use Rattle.std.proofs.lemmas.Bool.{cases_lt}
 use Rattle.mesh_table.specs.declared.key.Key.{Key}
-use Rattle.mesh_table.specs.Probing.{Slot, Empty, Full, slot_at, slot_ahead, steps_between, home_slot, filled, lookup, Cut, Sound, Holed, CutOff, Alike}
+use Rattle.mesh_table.specs.Probing.{Slot, holding, slot_at, slot_ahead, steps_between, home_slot, filled, lookup, Cut, Sound, Holed, CutOff, Alike}
 use Rattle.mesh_table.proofs.Keys.{key_cases}
 use Rattle.mesh_table.proofs.Steps.{ahead_add, ahead_same, ahead_steps, steps_below, steps_ahead, home_below}
 use Rattle.mesh_table.proofs.SlotCases.{empty_full, full_key, empty_misses}
@@ -16,7 +16,7 @@ use Rattle.mesh_table.proofs.Writes.{Written, put_full, put_empty}
 abbrev pub Far : {V : Type 0} → ℕ → List (Slot V) → ℕ → ℕ → Type 0
 Far {V} n ss hole g =
     (k : Key) (v : V) (d e : ℕ) → e < n → d < e → slot_ahead n (home_slot n k) d ≡ hole
-    → slot_at ss (slot_ahead n (home_slot n k) e) ≡ Full k v → d + g ≤ e
+    → slot_at ss (slot_ahead n (home_slot n k) e) ≡ holding k v → d + g ≤ e
 
 -- a record is moved into the hole, and slot i is the next hole
 pub record Moved {V : Type 0} (n : ℕ) (ss ts : List (Slot V)) (i : ℕ) : Type 0 where
@@ -40,10 +40,10 @@ module _ {V : Type 0} (n : ℕ) (ss : List (Slot V)) (hole : ℕ) (len : length 
       }
 
   -- nothing is cut off where an empty slot stands g steps behind the hole
-  pub ended : (g i : ℕ) → 0 < g → g < n → i ≡ slot_ahead n hole g → slot_at ss i ≡ Empty → Far n ss hole g → Sound n ss
+  pub ended : (g i : ℕ) → 0 < g → g < n → i ≡ slot_ahead n hole g → slot_at ss i ≡ None → Far n ss hole g → Sound n ss
   ended g i gp gn is empty far = record { distinct = h.distinct; reached = none }
     where
-      end : slot_at ss (slot_ahead n hole g) ≡ Empty
+      end : slot_at ss (slot_ahead n hole g) ≡ None
       end = ap (slot_at ss) (sym is) ∙ empty
 
       none : Cut n ss → ⊥
@@ -53,7 +53,7 @@ module _ {V : Type 0} (n : ℕ) (ss : List (Slot V)) (hole : ℕ) (len : length 
           let dg : d + g ≤ e = far k v d e en de at p in
           let there : slot_ahead n hole g ≡ slot_ahead n (home_slot n k) (d + g) =
           ap (λ (x : ℕ). slot_ahead n x g) (sym at) ∙ ahead_add n (home_slot n k) d g hb (omega arith) in
-          let gone : slot_at ss (slot_ahead n (home_slot n k) (d + g)) ≡ Empty = ap (slot_at ss) (sym there) ∙ end in
+          let gone : slot_at ss (slot_ahead n (home_slot n k) (d + g)) ≡ None = ap (slot_at ss) (sym there) ∙ end in
           ⊎_elim
           (λ (lt : d + g < e).
           let same : d + g ≡ d =
@@ -68,10 +68,10 @@ module _ {V : Type 0} (n : ℕ) (ss : List (Slot V)) (hole : ℕ) (len : length 
 
   -- a record that the hole does not cut off is passed
   pub passed :
-      (k : Key) (v : V) (g i : ℕ) → g < n → i ≡ slot_ahead n hole g → slot_at ss i ≡ Full k v
+      (k : Key) (v : V) (g i : ℕ) → g < n → i ≡ slot_ahead n hole g → slot_at ss i ≡ holding k v
       → steps_between n (home_slot n k) i ≤ steps_between n (home_slot n k) hole → Far n ss hole g → Far n ss hole (g + 1)
   passed k v g i gn is full less far k' v' d e en de at p =
-      let here : slot_at ss (slot_ahead n hole g) ≡ Full k v = ap (slot_at ss) (sym is) ∙ full in
+      let here : slot_at ss (slot_ahead n hole g) ≡ holding k v = ap (slot_at ss) (sym is) ∙ full in
       let same : steps_between n (home_slot n k) i ≡ steps_between n (home_slot n k) (slot_ahead n hole g) =
       ap (steps_between n (home_slot n k)) is in
       let dg : d + g ≤ e = far k' v' d e en de at p in
@@ -102,10 +102,10 @@ module _ {V : Type 0} (n : ℕ) (ss : List (Slot V)) (hole : ℕ) (len : length 
     v = c.value
 
     abbrev us : List (Slot V)
-    us = set ss i Empty
+    us = set ss i None
 
     abbrev ts : List (Slot V)
-    ts = set us hole (Full k v)
+    ts = set us hole (holding k v)
 
     apart : hole ≡ i → ⊥
     apart e = empty_full (slot_at ss hole) k v h.bare (ap (slot_at ss) e ∙ c.here)
@@ -114,17 +114,17 @@ module _ {V : Type 0} (n : ℕ) (ss : List (Slot V)) (hole : ℕ) (len : length 
     there = omega (arith, len, c.inside)
 
     there' : hole < length us
-    there' = omega (arith, length-set ss i Empty, len, h.inside)
+    there' = omega (arith, length-set ss i None, len, h.inside)
 
     lifted : Written ss us k None
     lifted = put_empty n ss len h.distinct k v i c.inside c.here
 
-    bare' : slot_at us hole ≡ Empty
-    bare' = get_or-set_other ss i hole Empty Empty apart ∙ h.bare
+    bare' : slot_at us hole ≡ None
+    bare' = get_or-set_other ss i hole None None apart ∙ h.bare
 
     placed : Written us ts k (Some v)
     placed =
-        put_full n us (length-set ss i Empty ∙ len) lifted.distinct k v hole h.inside
+        put_full n us (length-set ss i None ∙ len) lifted.distinct k v hole h.inside
         (λ j _ w p. none-some w (sym lifted.becomes.here ∙ lookup_here us j k w lifted.distinct p))
         (λ q _. empty_misses (slot_at us hole) q bare')
 
@@ -132,21 +132,21 @@ module _ {V : Type 0} (n : ℕ) (ss : List (Slot V)) (hole : ℕ) (len : length 
     only : (c : Cut n ts) → slot_ahead n (home_slot n c.0) c.2 ≡ i
     only (q, w, d, e, en, p, de, z) =
         let a : ℕ = slot_ahead n (home_slot n q) d in
-        ⊎_elim (λ (o : (a ≡ hole) × (Full k v ≡ Empty)). absurd (empty_full (Full k v) k v o.1 refl))
-        (λ (z' : slot_at us a ≡ Empty).
-        ⊎_elim (λ (o : (a ≡ i) × (Empty ≡ Empty)). o.0) (λ (z'' : slot_at ss a ≡ Empty). absurd (cut q w d e en p de z z''))
-        (was ss i Empty a Empty there z'))
-        (was us hole (Full k v) a Empty there' z)
+        ⊎_elim (λ (o : (a ≡ hole) × (holding k v ≡ None)). absurd (empty_full (holding k v) k v o.1 refl))
+        (λ (z' : slot_at us a ≡ None).
+        ⊎_elim (λ (o : (a ≡ i) × (None ≡ None)). o.0) (λ (z'' : slot_at ss a ≡ None). absurd (cut q w d e en p de z z''))
+        (was ss i None a None there z'))
+        (was us hole (holding k v) a None there' z)
       where
         cut :
-            (q : Key) (w : V) (d e : ℕ) → e < n → slot_at ts (slot_ahead n (home_slot n q) e) ≡ Full q w → d < e
-            → slot_at ts (slot_ahead n (home_slot n q) d) ≡ Empty → slot_at ss (slot_ahead n (home_slot n q) d) ≡ Empty → ⊥
+            (q : Key) (w : V) (d e : ℕ) → e < n → slot_at ts (slot_ahead n (home_slot n q) e) ≡ holding q w → d < e
+            → slot_at ts (slot_ahead n (home_slot n q) d) ≡ None → slot_at ss (slot_ahead n (home_slot n q) d) ≡ None → ⊥
         cut q w d e en p de z z'' =
             let not_hole : slot_ahead n (home_slot n q) d ≡ hole → ⊥ =
-            λ x. empty_full (slot_at ts hole) k v (ap (slot_at ts) (sym x) ∙ z) (get_or-set_same us hole (Full k v) Empty there') in
+            λ x. empty_full (slot_at ts hole) k v (ap (slot_at ts) (sym x) ∙ z) (get_or-set_same us hole (holding k v) None there') in
             ⊎_elim
-            (λ (o : (slot_ahead n (home_slot n q) e ≡ hole) × (Full k v ≡ Full q w)).
-            let kk : k ≡ q = full_key (Full k v) k q v w refl o.1 in
+            (λ (o : (slot_ahead n (home_slot n q) e ≡ hole) × (holding k v ≡ holding q w)).
+            let kk : k ≡ q = full_key (holding k v) k q v w refl o.1 in
             let hb : home_slot n k < n = home_below n k pos in
             let hh : home_slot n k ≡ home_slot n q = ap (home_slot n) kk in
             let back : slot_ahead n (home_slot n k) d ≡ slot_ahead n (home_slot n q) d = ap (λ (x : ℕ). slot_ahead n x d) hh in
@@ -165,15 +165,15 @@ module _ {V : Type 0} (n : ℕ) (ss : List (Slot V)) (hole : ℕ) (len : length 
               omega (arith, at_hole, de, c.before),
               ap (slot_at ss) back ∙ z'',
             )))
-            (λ (p' : slot_at us (slot_ahead n (home_slot n q) e) ≡ Full q w).
-            ⊎_elim (λ (o : (slot_ahead n (home_slot n q) e ≡ i) × (Empty ≡ Full q w)). empty_full Empty q w refl o.1)
-            (λ (p'' : slot_at ss (slot_ahead n (home_slot n q) e) ≡ Full q w).
+            (λ (p' : slot_at us (slot_ahead n (home_slot n q) e) ≡ holding q w).
+            ⊎_elim (λ (o : (slot_ahead n (home_slot n q) e ≡ i) × (None ≡ holding q w)). empty_full None q w refl o.1)
+            (λ (p'' : slot_at ss (slot_ahead n (home_slot n q) e) ≡ holding q w).
             not_hole (h.reached (q, w, d, e, en, p'', de, z'')))
-            (was ss i Empty (slot_ahead n (home_slot n q) e) (Full q w) there p'))
-            (was us hole (Full k v) (slot_ahead n (home_slot n q) e) (Full q w) there' p)
+            (was ss i None (slot_ahead n (home_slot n q) e) (holding q w) there p'))
+            (was us hole (holding k v) (slot_ahead n (home_slot n q) e) (holding q w) there' p)
 
     pub moved :
-        (r : Slot V) (xs ys : List (Slot V)) → r ≡ slot_at ss i → xs ≡ set ss i Empty → ys ≡ set xs hole r → Moved n ss ys i
+        (r : Slot V) (xs ys : List (Slot V)) → r ≡ slot_at ss i → xs ≡ set ss i None → ys ≡ set xs hole r → Moved n ss ys i
     moved r xs ys is emptied written =
         subst (λ (x : List (Slot V)). Moved n ss x i)
         (sym (written ∙ ap (λ (x : List (Slot V)). set x hole r) emptied ∙ ap (set us hole) (is ∙ c.here))) (
@@ -181,11 +181,11 @@ module _ {V : Type 0} (n : ℕ) (ss : List (Slot V)) (hole : ℕ) (len : length 
           holed = record {
             distinct = placed.distinct;
             inside = c.inside;
-            bare = get_or-set_other us hole i (Full k v) Empty (λ e. apart (sym e)) ∙ get_or-set_same ss i Empty Empty there;
+            bare = get_or-set_other us hole i (holding k v) None (λ e. apart (sym e)) ∙ get_or-set_same ss i None None there;
             reached = only;
           };
           alike = record {
-            size = omega (arith, size_set us hole (Full k v) there', ap filled bare', size_set ss i Empty there, ap filled c.here);
+            size = omega (arith, size_set us hole (holding k v) there', ap filled bare', size_set ss i None there, ap filled c.here);
             lookup = λ q.
                 ⊎_elim
                 (λ (e : q ≡ k).

@@ -1,21 +1,20 @@
 -- The lowest vertex number, slot by slot.
 use Rattle.std.proofs.Common.{◌≡◌, ℕ, ◌+◌, ◌<◌, ◌≤◌, Bool, true, false, cond, ◌&&◌, eqb, leb, ◌⊎◌, List, length, Some, None, Option, sym, refl, ap, ◌∙◌, subst, inl, inr, ⊎_elim, arith}
-use Rattle.std.proofs.lemmas.List.{get_or_past}
-use Rattle.std.proofs.lemmas.Option.{none-some}
+use Rattle.std.proofs.lemmas.Option.{none-some, same_Some}
 use Rattle.std.proofs.lemmas.Bool.{cases_lt, and_parts, and_cases, eqb-true, eqb-false, leb-true, leb-false}
 use Rattle.mesh_table.specs.declared.key.Key.{Key}
 use Rattle.mesh_table.specs.declared.ring.Record.{Record}
 use Rattle.mesh_table.specs.Keys.{vertex_key}
-use Rattle.mesh_table.specs.Probing.{Slot, Empty, Full, slot_at, lookup, Distinct}
+use Rattle.mesh_table.specs.Probing.{Slot, holding, slot_at, lookup, Distinct}
 use Rattle.mesh_table.specs.LowestVertex.{bound, lower, LowestIn}
 use Rattle.mesh_table.proofs.Keys.{key_parts}
-use Rattle.mesh_table.proofs.SlotCases.{empty_full, some_same, full_key}
-use Rattle.mesh_table.proofs.Finite.{lookup_none, lookup_here}
+use Rattle.mesh_table.proofs.SlotCases.{empty_full, full_key}
+use Rattle.mesh_table.proofs.Finite.{full_inside, lookup_none, lookup_here}
 
 -- what is known of the lowest record among the first i slots
 pub record Near {V : Type 0} (ss : List (Slot V)) (i m : ℕ) (b : Option (Record V)) : Type 0 where
   pub within : bound b m ≤ m
-  pub lowest : (j n : ℕ) (v : V) → j < i → slot_at ss j ≡ Full (vertex_key n) v → n ≤ m → (bound b m ≤ n) × (b ≡ None → ⊥)
+  pub lowest : (j n : ℕ) (v : V) → j < i → slot_at ss j ≡ holding (vertex_key n) v → n ≤ m → (bound b m ≤ n) × (b ≡ None → ⊥)
   pub here : (r : Record V) → b ≡ Some r → lookup ss (vertex_key r.key.first) ≡ Some r.value
 
 last : (j i : ℕ) → j < i + 1 → (j < i) ⊎ (j ≡ i)
@@ -24,7 +23,7 @@ last j i l = ⊎_elim (λ (x : j < i). inl x) (λ (x : i ≤ j). inr (omega arit
 module _ {V : Type 0} (ss : List (Slot V)) (i m : ℕ) (b : Option (Record V)) (a : Distinct ss) (near : Near ss i m b) where
   -- the lowest record stays
   stays :
-      ((n : ℕ) (v : V) → slot_at ss i ≡ Full (vertex_key n) v → n ≤ m → (bound b m ≤ n) × (b ≡ None → ⊥))
+      ((n : ℕ) (v : V) → slot_at ss i ≡ holding (vertex_key n) v → n ≤ m → (bound b m ≤ n) × (b ≡ None → ⊥))
       → Near ss (i + 1) m b
   stays here =
       record {
@@ -44,12 +43,12 @@ module _ {V : Type 0} (ss : List (Slot V)) (i m : ℕ) (b : Option (Record V)) (
       record {
         within = omega (arith, near.within);
         lowest = λ j n w x y le. (low j n w x y le l, λ n. none-some r (sym n));
-        here = λ q y. subst (λ (q : Record V). lookup ss (vertex_key q.key.first) ≡ Some q.value) (some_same r q y)
+        here = λ q y. subst (λ (q : Record V). lookup ss (vertex_key q.key.first) ≡ Some q.value) (same_Some r q y)
             (ap (lookup ss) (key_parts (vertex_key r.key.first) r.key refl (sym z)) ∙ lookup_here ss i r.key r.value a p);
       }
     where
       low :
-          (j n : ℕ) (w : V) → j < i + 1 → slot_at ss j ≡ Full (vertex_key n) w → n ≤ m → r.key.first ≤ bound b m
+          (j n : ℕ) (w : V) → j < i + 1 → slot_at ss j ≡ holding (vertex_key n) w → n ≤ m → r.key.first ≤ bound b m
           → r.key.first ≤ n
       low j n w x y le l =
           elim (last j i x) [
@@ -78,18 +77,13 @@ module _ {V : Type 0} (ss : List (Slot V)) (i m : ℕ) (b : Option (Record V)) (
   near_step (Some r) p = full r p (eqb r.key.second 0 && leb r.key.first (bound b m)) refl
 
 module _ {V : Type 0} (ss : List (Slot V)) (n m : ℕ) (len : length ss ≡ n) where
-  inside : (j q : ℕ) (v : V) → slot_at ss j ≡ Full (vertex_key q) v → j < n
-  inside j q v p =
-      ⊎_elim (λ (l : j < n). l)
-      (λ (l : n ≤ j). absurd (empty_full (slot_at ss j) (vertex_key q) v (get_or_past ss j Empty (omega arith)) p)) (cases_lt j n)
-
   pub near_none : Near ss n m None → LowestIn ss m None
-  near_none near q le = lookup_none ss (vertex_key q) (λ j v p. (near.lowest j q v (inside j q v p) p le).1 refl)
+  near_none near q le = lookup_none ss (vertex_key q) (λ j v p. (near.lowest j q v (omega (arith, full_inside ss j (vertex_key q) v p)) p le).1 refl)
 
   pub near_some : (r : Record V) → Near ss n m (Some r) → LowestIn ss m (Some r.value)
   near_some r near = (r.key.first, near.within, near.here r refl, λ q l. lookup_none ss (vertex_key q) (λ j w p. far q l j w p))
     where
-      far : (q : ℕ) → q < r.key.first → (j : ℕ) (w : V) → slot_at ss j ≡ Full (vertex_key q) w → ⊥
+      far : (q : ℕ) → q < r.key.first → (j : ℕ) (w : V) → slot_at ss j ≡ holding (vertex_key q) w → ⊥
       far q l j w p =
-          let e = (near.lowest j q w (inside j q w p) p (let x = near.within in omega arith)).0 in
+          let e = (near.lowest j q w (omega (arith, full_inside ss j (vertex_key q) w p)) p (let x = near.within in omega arith)).0 in
           omega arith

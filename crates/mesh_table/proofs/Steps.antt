@@ -12,6 +12,9 @@ ahead_same n h d e p q r s = grind (arith, nat_tests)
 pub ahead_add : (n h d g : ℕ) → h < n → d + g < n → slot_ahead n (slot_ahead n h d) g ≡ slot_ahead n h (d + g)
 ahead_add n h d g p q = grind (arith, nat_tests)
 
+pub ahead_below : (n h d : ℕ) → h < n → d < n → slot_ahead n h d < n
+ahead_below n h d p q = grind (arith, nat_tests)
+
 pub steps_below : (n h i : ℕ) → h < n → i < n → steps_between n h i < n
 steps_below n h i p q = grind (arith, nat_tests)
 

@@ -16,11 +16,9 @@ use Rattle.mesh_table.specs.Keys.{same_key, spread}
 abbrev pub Slot : Type 0 → Type 0
 Slot V = Option (Record V)
 
-abbrev pub Empty : {V : Type 0} → Slot V
-Empty = None
-
-abbrev pub Full : {V : Type 0} → Key → V → Slot V
-Full k v = Some (record { key = k; value = v })
+-- The slot of a record.
+abbrev pub holding : {V : Type 0} → Key → V → Slot V
+holding k v = Some (record { key = k; value = v })
 
 -- The value in a slot of key k, or else o.
 abbrev pub pick : {V : Type 0} → Slot V → Key → Option V → Option V
@@ -41,7 +39,7 @@ size (s ∷ ss) = filled s + size ss
 
 -- The slot at i; past the end, an empty one.
 abbrev pub slot_at : {V : Type 0} → List (Slot V) → ℕ → Slot V
-slot_at ss i = slice_index_or ss i Empty
+slot_at ss i = slice_index_or ss i None
 
 abbrev pub value_in : {V : Type 0} → Slot V → Option V
 value_in None = None
@@ -59,12 +57,12 @@ unfoldable pub home_slot : ℕ → Key → ℕ
 home_slot n k = spread k * n / 2 ^ 32
 
 abbrev pub Misses : {V : Type 0} → Slot V → Key → Type 0
-Misses {V} s k = (v : V) → s ≢ Full k v
+Misses {V} s k = (v : V) → s ≢ holding k v
 
 -- A key that stands in two slots.
 abbrev pub Twice : {V : Type 0} → List (Slot V) → Type 0
 Twice {V} ss =
-    (i : ℕ) × (j : ℕ) × (k : Key) × (v : V) × (w : V) × (i < j) × (slot_at ss i ≡ Full k v) × (slot_at ss j ≡ Full k w)
+    (i : ℕ) × (j : ℕ) × (k : Key) × (v : V) × (w : V) × (i < j) × (slot_at ss i ≡ holding k v) × (slot_at ss j ≡ holding k w)
 
 abbrev pub Distinct : {V : Type 0} → List (Slot V) → Type 0
 Distinct ss = Twice ss → ⊥
@@ -72,14 +70,14 @@ Distinct ss = Twice ss → ⊥
 -- A record e steps from its home, and an empty slot d steps from there, before it.
 abbrev pub Cut : {V : Type 0} → ℕ → List (Slot V) → Type 0
 Cut {V} n ss =
-    (k : Key) × (v : V) × (d : ℕ) × (e : ℕ) × (e < n) × (slot_at ss (slot_ahead n (home_slot n k) e) ≡ Full k v) × (d < e)
-    × (slot_at ss (slot_ahead n (home_slot n k) d) ≡ Empty)
+    (k : Key) × (v : V) × (d : ℕ) × (e : ℕ) × (e < n) × (slot_at ss (slot_ahead n (home_slot n k) e) ≡ holding k v) × (d < e)
+    × (slot_at ss (slot_ahead n (home_slot n k) d) ≡ None)
 
 abbrev pub Reached : {V : Type 0} → ℕ → List (Slot V) → Type 0
 Reached n ss = Cut n ss → ⊥
 
 abbrev pub Has : {V : Type 0} → Slot V → Key → Type 0
-Has {V} s k = (v : V) × (s ≡ Full k v)
+Has {V} s k = (v : V) × (s ≡ holding k v)
 
 -- A slot that a search for k goes past: it is full, of another key.
 abbrev pub Foreign : {V : Type 0} → Slot V → Key → Type 0
@@ -92,7 +90,7 @@ Passed n ss k d = (e : ℕ) → e < d → Foreign (slot_at ss (slot_ahead n (hom
 
 -- Slot i is the first empty one that a search for k comes to.
 pub record Vacancy {V : Type 0} (n : ℕ) (ss : List (Slot V)) (k : Key) (i : ℕ) : Type 0 where
-  pub bare : slot_at ss i ≡ Empty
+  pub bare : slot_at ss i ≡ None
   pub steps : ℕ
   pub within : steps < n
   pub at : i ≡ slot_ahead n (home_slot n k) steps
@@ -100,8 +98,8 @@ pub record Vacancy {V : Type 0} (n : ℕ) (ss : List (Slot V)) (k : Key) (i : �
 
 -- How a search for k among n slots ends.
 abbrev pub Probed : {V : Type 0} → (n : ℕ) → List (Slot V) → Key → Probe n → Type 0
-Probed n ss k (Found i) = Has (slot_at ss i.number) k
-Probed n ss k (Vacant i) = Vacancy n ss k i.number
+Probed n ss k (Found i) = Has (slot_at ss i) k
+Probed n ss k (Vacant i) = Vacancy n ss k i
 Probed n ss k Exhausted = Passed n ss k n
 
 -- Slots that may be searched.
@@ -113,7 +111,7 @@ pub record Sound {V : Type 0} (n : ℕ) (ss : List (Slot V)) : Type 0 where
 pub record Holed {V : Type 0} (n : ℕ) (ss : List (Slot V)) (hole : ℕ) : Type 0 where
   pub distinct : Distinct ss
   pub inside : hole < n
-  pub bare : slot_at ss hole ≡ Empty
+  pub bare : slot_at ss hole ≡ None
   pub reached : (c : Cut n ss) → slot_ahead n (home_slot n c.0) c.2 ≡ hole
 
 -- The record in slot i, which the hole cuts off from its home.
@@ -121,13 +119,13 @@ pub record CutOff {V : Type 0} (n : ℕ) (ss : List (Slot V)) (hole i : ℕ) : T
   pub inside : i < n
   pub key : Key
   pub value : V
-  pub here : slot_at ss i ≡ Full key value
+  pub here : slot_at ss i ≡ holding key value
   pub before : steps_between n (home_slot n key) hole < steps_between n (home_slot n key) i
 
 -- What the hole cuts off: the record in a slot, or nothing.
 abbrev pub Behind : {V : Type 0} → (n : ℕ) → List (Slot V) → ℕ → Option (SlotNumber n) → Type 0
 Behind n ss hole None = Sound n ss
-Behind n ss hole (Some i) = CutOff n ss hole i.number
+Behind n ss hole (Some i) = CutOff n ss hole i
 
 -- The same records, wherever they stand.
 pub record Alike {V : Type 0} (ss ts : List (Slot V)) : Type 0 where
@@ -148,8 +146,8 @@ FreeAt n ss k i = Vacancy n ss k i × (lookup ss k ≡ None)
 
 -- What the end of a search for k says of the map.
 abbrev pub Sought : {V : Type 0} → (n : ℕ) → List (Slot V) → Key → Probe n → Type 0
-Sought n ss k (Found i) = FoundAt ss k i.number
-Sought n ss k (Vacant i) = FreeAt n ss k i.number
+Sought n ss k (Found i) = FoundAt ss k i
+Sought n ss k (Vacant i) = FreeAt n ss k i
 Sought n ss k Exhausted = (lookup ss k ≡ None) × (size ss ≡ n)
 
 -- A search for k ends at slot i.

@@ -13,7 +13,7 @@ use Rattle.mesh_table.specs.Keys.{vertex_key}
 use Rattle.mesh_table.specs.Probing.{lookup}
 
 abbrev pub record_at : {V : Type 0} {n : ℕ} → Table V n → Key → Option V
-record_at t k = lookup t.slots.ring.array k
+record_at t k = lookup t.slots k
 
 abbrev pub records : {V : Type 0} {n : ℕ} → Table V n → ℕ
 records t = t.count

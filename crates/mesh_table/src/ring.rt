@@ -6,6 +6,7 @@ use crate::number::SlotNumber;
 
 mod shift;
 
+// A record in a slot: what the table keeps, the value, beside the key at which it keeps it, by which a search knows it.
 #[derive(Clone, Copy)]
 pub(crate) struct Record<V> {
     pub(crate) key: Key,
@@ -41,13 +42,13 @@ impl<V: Copy, const N: usize> Ring<V, N> {
     }
 
     pub(crate) fn slot(&self, i: SlotNumber<N>) -> Option<Record<V>>
-        ensures { result ≡ slot_at self.now.array i.entry.number }
+        ensures { result ≡ slot_at self.now.array i.entry }
     {
         self.array[i.number]
     }
 
     pub(crate) fn put(&mut self, i: SlotNumber<N>, slot: Option<Record<V>>)
-        ensures { self.new.array ≡ slice_set self.old.array i.entry.number slot }
+        ensures { self.new.array ≡ slice_set self.old.array i.entry slot }
     {
         self.array[i.number] = slot;
     }
@@ -55,14 +56,15 @@ impl<V: Copy, const N: usize> Ring<V, N> {
     // Where a search for the key begins. The high bits of the spread decide, since they depend on every bit of the key. With `as`,
     // since the library's conversions from u32 to usize may fail.
     fn home(&self, key: Key) -> SlotNumber<N>
-        ensures { result.number ≡ home_slot N key }
+        ensures { result ≡ home_slot N key }
     {
         SlotNumber {
             number: (key.spread() as usize * N) >> 32,
         }
     }
 
-    // Goes from the key's home to the key, or else to the first empty slot. What is counted are the steps: the ring knows the slot.
+    // Goes from the key's home to the key, or else to the first empty slot. The loop counts steps: from any home, N of them come
+    // to every slot.
     pub(crate) fn probe(&self, key: Key) -> Probe<N>
         ensures { Probed N self.now.array key result }
     {

@@ -1,9 +1,10 @@
-ghost use Rattle.std.specs.Prelude.{◌≡◌, ◌+◌, ◌^◌, ◌<◌, is_some, if◌then◌else◌, Some, None};
-ghost use Rattle.mesh_table.specs.Probing.{slot_at, lookup, size, value_in, Sought, EndsAt, Sound, Becomes};
+ghost use Rattle.std.specs.Prelude.{◌≡◌, List, ◌+◌, ◌^◌, ◌<◌, is_some, if◌then◌else◌, Some, None};
+ghost use Rattle.mesh_table.specs.Probing.{Slot, slot_at, lookup, size, value_in, Sought, EndsAt, Sound, Becomes};
 
 use crate::key::Key;
 use crate::number::SlotNumber;
 use crate::ring::{Probe, Record, Ring};
+use std::marker::Model;
 
 mod lowest;
 
@@ -11,15 +12,22 @@ mod lowest;
 #[derive(Drop)]
 pub(crate) struct Slots<V, const N: usize> {
     ring: Ring<V, N>,
-    ghost sound: { Sound N ring.array },
+}
+
+impl<V, const N: usize> Model for Slots<V, N> {
+    ghost Value = { List (Slot V) };
+
+    ghost view = { λ s. s.ring.array };
+
+    ghost invariant = { λ s. Sound N s.ring.array };
 }
 
 impl<V: Copy, const N: usize> Slots<V, N> {
     pub(crate) fn empty() -> Slots<V, N>
         requires has_slots { 0 < N }
         requires few_slots { N < 2 ^ 32 }
-        ensures counted { size result.ring.array ≡ 0 }
-        ensures bare { (q : Key) → lookup result.ring.array q ≡ None }
+        ensures counted { size result ≡ 0 }
+        ensures bare { (q : Key) → lookup result q ≡ None }
     {
         Slots {
             ring: Ring::empty(),
@@ -28,32 +36,32 @@ impl<V: Copy, const N: usize> Slots<V, N> {
 
     // A search: where it does not find the key, no slot has it.
     pub(crate) fn seek(&self, key: Key) -> Probe<N>
-        ensures { Sought N self.now.ring.array key result }
+        ensures { Sought N self.now key result }
     {
         self.ring.probe(key)
     }
 
     // The value in a slot, if it has one.
     pub(crate) fn value(&self, i: SlotNumber<N>) -> Option<V>
-        ensures { result ≡ value_in (slot_at self.now.ring.array i.entry.number) }
+        ensures { result ≡ value_in (slot_at self.now i.entry) }
     {
         Some(self.ring.slot(i)?.value)
     }
 
     // Puts a value at a key, into the slot that a search for the key came to.
     pub(crate) fn set(&mut self, i: SlotNumber<N>, key: Key, value: V)
-        requires { EndsAt N self.old.ring.array key i.number }
-        ensures becomes { Becomes self.old.ring.array self.new.ring.array key (Some value) }
-        ensures counted { size self.new.ring.array + (if is_some (lookup self.old.ring.array key) then 1 else 0) ≡ size self.old.ring.array + 1 }
+        requires { EndsAt N self.old key i }
+        ensures becomes { Becomes self.old self.new key (Some value) }
+        ensures counted { size self.new + (if is_some (lookup self.old key) then 1 else 0) ≡ size self.old + 1 }
     {
         self.ring.put(i, Some(Record { key, value }));
     }
 
     // Takes out the record at a key, if there is one.
     pub(crate) fn remove(&mut self, key: Key) -> Option<V>
-        ensures value { result ≡ lookup self.old.ring.array key }
-        ensures becomes { Becomes self.old.ring.array self.new.ring.array key None }
-        ensures counted { size self.new.ring.array + (if is_some result then 1 else 0) ≡ size self.old.ring.array }
+        ensures value { result ≡ lookup self.old key }
+        ensures becomes { Becomes self.old self.new key None }
+        ensures counted { size self.new + (if is_some result then 1 else 0) ≡ size self.old }
     {
         match self.seek(key) {
             Probe::Found(i) => {

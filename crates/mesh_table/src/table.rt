@@ -4,6 +4,7 @@ ghost use Rattle.mesh_table.specs.Probing.{size};
 use crate::slots::Slots;
 
 mod lookup;
+mod show;
 mod start;
 mod update;
 
@@ -15,7 +16,7 @@ pub struct Table<V, const N: usize> {
     slots: Slots<V, N>,
     count: usize,
     limit: usize,
-    ghost counted: { (size slots.ring.array ≡ count) × (count ≤ limit) × (limit ≤ N) },
+    ghost counted: { (size slots ≡ count) × (count ≤ limit) × (limit ≤ N) },
 }
 
 // Why a record is not taken in.

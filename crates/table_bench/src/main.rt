@@ -63,7 +63,7 @@ impl Window {
 
     fn add_next(&mut self) -> anyhow::Result<()> {
         let vertex = Vertex::numbered(self.next);
-        // with `map_err` and `?` an operation takes three times as long
+        // with `?` on what `insert` answers an operation takes twice as long
         if self.table.insert(Key::vertex(self.next), vertex).is_err() {
             return Err(anyhow!("a vertex is not taken in"));
         }

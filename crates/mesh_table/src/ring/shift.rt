@@ -8,7 +8,7 @@ use crate::ring::Ring;
 impl<V: Copy, const N: usize> Ring<V, N> {
     // Whether the hole comes before slot i on the way from the key's home.
     fn comes_before(&self, key: Key, hole: SlotNumber<N>, i: SlotNumber<N>) -> bool
-        ensures { result ≡ nat_lt (steps_between N (home_slot N key) hole.entry.number) (steps_between N (home_slot N key) i.entry.number) }
+        ensures { result ≡ nat_lt (steps_between N (home_slot N key) hole.entry) (steps_between N (home_slot N key) i.entry) }
     {
         let home = self.home(key);
         home.steps_to(hole) < home.steps_to(i)
@@ -16,8 +16,8 @@ impl<V: Copy, const N: usize> Ring<V, N> {
 
     // The first slot behind the hole whose record the hole cuts off from its home, if there is one.
     fn cut_off(&self, hole: SlotNumber<N>) -> Option<SlotNumber<N>>
-        requires { Holed N self.now.array hole.number }
-        ensures { Behind N self.now.array hole.entry.number result }
+        requires { Holed N self.now.array hole }
+        ensures { Behind N self.now.array hole.entry result }
     {
         for distance in 1..N {
             let i = hole.ahead(distance);
@@ -32,7 +32,7 @@ impl<V: Copy, const N: usize> Ring<V, N> {
     // Moves each record that the hole cuts off into the hole; the slot that it leaves is the next hole. The last hole cuts off
     // nothing.
     pub(crate) fn close_up(&mut self, from: SlotNumber<N>)
-        requires { Holed N self.old.array from.number }
+        requires { Holed N self.old.array from }
         ensures sound { Sound N self.new.array }
         ensures alike { Alike self.old.array self.new.array }
     {

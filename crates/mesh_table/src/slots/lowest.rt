@@ -23,6 +23,7 @@ fn lower<V: Copy>(
     }
 }
 
+// A loop, since with `iter().flatten().filter(..).min_by_key(..)` the proof did not close.
 fn lowest_of<V: Copy>(slots: &[Option<Record<V>>], most: u32) -> Option<V>
     requires { Distinct slots.now }
     ensures { LowestIn slots.now most result }
@@ -37,7 +38,7 @@ fn lowest_of<V: Copy>(slots: &[Option<Record<V>>], most: u32) -> Option<V>
 impl<V: Copy, const N: usize> Slots<V, N> {
     // The value at the lowest vertex number up to `most` that has one.
     pub(crate) fn lowest_vertex(&self, most: u32) -> Option<V>
-        ensures { LowestIn self.now.ring.array most result }
+        ensures { LowestIn self.now most result }
     {
         lowest_of(&self.ring.array, most)
     }

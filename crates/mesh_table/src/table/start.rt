@@ -9,7 +9,7 @@ impl<V: Copy, const N: usize> Table<V, N> {
     pub fn new(limit: usize) -> Option<Table<V, N>>
         ensures { Made limit result }
     {
-        if N == 0 || N > u32::MAX as usize || limit > N {
+        if N == 0 || u32::try_from(N).is_err() || limit > N {
             return None;
         }
         Some(Table {

@@ -1,6 +1,5 @@
-use Rattle.std.proofs.Common.{◌+◌, sym, ◌∙◌, subst, arith}
+use Rattle.std.proofs.Common.{◌+◌, None, sym, ◌∙◌, subst, arith}
 use Rattle.std.proofs.lemmas.List.{get_or_default}
-use Rattle.mesh_table.specs.Probing.{Empty}
 use Rattle.mesh_table.specs.LowestVertex.{LowestIn}
 use Rattle.mesh_table.proofs.Nearing.{Near, near_step, near_none, near_some}
 use Rattle.mesh_table.proofs.slots.lowest.lowest_of.Goals as goal
@@ -11,7 +10,7 @@ loop-slot-preserved g c =
     let i = c.loop-slot.slot-index in
     subst (Near ss (i + 1) c.args.most) (sym c.lower-lowest.ensures)
     (near_step ss i c.args.most c.loop-slot.lowest c.requires c.loop-slot.invariant c.slot-item.result
-    (get_or_default ss i Empty c.slot-item.result c.loop-slot-test.true ∙ sym c.slot-item.is))
+    (get_or_default ss i None c.slot-item.result c.loop-slot-test.true ∙ sym c.slot-item.is))
 
 pub returns-in_err-lowest : goal.returns-in_err-lowest
 returns-in_err-lowest g c =
