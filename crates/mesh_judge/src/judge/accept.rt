@@ -1,6 +1,6 @@
 ghost use Rattle.std.specs.Prelude.{◌≡◌, ℕ, ◌&&◌};
 ghost use Rattle.std.specs.Result.{result_err};
-ghost use Rattle.mesh_stream.specs.Ranges.{coordinate, in_space, vertex_number};
+ghost use Rattle.mesh_stream.specs.Ranges.{in_space, vertex_number};
 ghost use Rattle.mesh_stream.specs.declared.event.Event.TheVariants.{Vertex};
 ghost use Rattle.mesh_judge.specs.Windows.{refuses, end_by};
 ghost use Rattle.mesh_judge.specs.Judging.{window_of, live_limit, Entered, CornerFound, CornersFound, TriangleCounted, Counted, TakenOut, Left, Stands};
@@ -8,35 +8,18 @@ ghost use Rattle.mesh_judge.specs.Judging.{window_of, live_limit, Entered, Corne
 use super::Judge;
 use crate::live::{Corners, Live};
 use mesh_stream::event::Point;
-use mesh_stream::fault::{Cause, Fault, LayerName};
+use mesh_stream::fault::{Cause, LayerName};
+use mesh_stream::range::is_vertex_number;
 use mesh_stream::stage::Standing;
 use mesh_table::key::Key;
 
 // The most triangles that a stream may have.
 const TRIANGLES: u32 = 100_000_000;
 
-fn is_coordinate(z: i32) -> bool
-    ensures { result ≡ coordinate z }
-{
-    (-100_000..=100_000).contains(&z)
-}
-
-fn is_in_space(at: Point) -> bool
-    ensures { result ≡ in_space at }
-{
-    is_coordinate(at.x) && is_coordinate(at.y) && is_coordinate(at.z)
-}
-
-fn is_vertex_number(number: u32) -> bool
-    ensures { result ≡ vertex_number number }
-{
-    (1..=100_000_000).contains(&number)
-}
-
 fn in_range(number: u32, at: Point) -> bool
     ensures { result ≡ (in_space at && vertex_number number) }
 {
-    is_in_space(at) && is_vertex_number(number)
+    at.is_in_space() && is_vertex_number(number)
 }
 
 // How a layer stands at an end, by the lowest-numbered live vertex, if there is one.
@@ -45,11 +28,7 @@ fn end_by<T: Copy>(layer: LayerName, left: Option<Live<T>>) -> Standing
 {
     match left {
         None => Standing::Ended,
-        Some(vertex) => Standing::Faulty(Fault {
-            layer,
-            cause: Cause::LeftLive,
-            place: vertex.place,
-        }),
+        Some(vertex) => Standing::faulty(layer, Cause::LeftLive, vertex.place),
     }
 }
 
