@@ -60,7 +60,7 @@ fn finalization(place: u32, words: Option<[Option<Numeral>; 1]>) -> Result<Event
 
 impl Rest<'_> {
     fn first_word(&mut self) -> FirstWord
-        ensures { Begun self.old.bytes.now result self.new.bytes.now }
+        ensures { Begun self.old result self.new }
     {
         self.skip_blanks();
         match self.next_in_word() {
@@ -73,8 +73,8 @@ impl Rest<'_> {
 
     // What the letter in front makes of the rest of the line.
     fn behind_letter(&mut self, letter: char, next: Numbers) -> Result<Event, Cause>
-        ensures same { SameLine self.old.bytes.now self.new.bytes.now }
-        ensures event { result ≡ by_letter next.line next.vertex letter (rest_numerals self.old.bytes.now) }
+        ensures same { SameLine self.old self.new }
+        ensures event { result ≡ by_letter next.line next.vertex letter (rest_numerals self.old) }
     {
         match letter {
             'v' => vertex(next, self.exactly()),
@@ -86,8 +86,8 @@ impl Rest<'_> {
 
     // What the line holds.
     fn content(&mut self, next: Numbers) -> Result<Option<Event>, Cause>
-        ensures same { SameLine self.old.bytes.now self.new.bytes.now }
-        ensures content { result ≡ by_words next.line next.vertex (rest_words self.old.bytes.now) }
+        ensures same { SameLine self.old self.new }
+        ensures content { result ≡ by_words next.line next.vertex (rest_words self.old) }
     {
         match self.first_word() {
             FirstWord::Missing | FirstWord::Comment => Ok(None),
