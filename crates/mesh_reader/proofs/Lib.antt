@@ -3,4 +3,3 @@ mod Magnitudes
 mod FirstWords
 mod FrontLines
 mod LinesTaken
-mod Feeding

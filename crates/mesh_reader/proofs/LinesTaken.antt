@@ -1,6 +1,5 @@
 -- A line that was read and dropped.
-use Rattle.std.proofs.Common.{◌≡◌, ℕ, suc, ◌+◌, ◌-◌, ◌≤◌, Bool, true, false, List, length, take, drop, Some, None, Ok, sym, ap, ◌∙◌, add-one, arith, length-drop}
-use Rattle.std.proofs.lemmas.List.{drop-drop, drop-take, length-take}
+use Rattle.std.proofs.Common.{◌≡◌, ℕ, suc, ◌+◌, ◌-◌, Bool, true, false, List, length, drop, Some, None, Ok, sym, ap, ◌∙◌, add-one, arith, length-drop}
 use Rattle.mesh_stream.specs.declared.event.Event.{Event}
 use Rattle.mesh_stream.specs.Meaning.{Mark, prepend}
 use Rattle.mesh_stream.specs.Calls.{SameKind}
@@ -12,9 +11,7 @@ use Rattle.mesh_reader.specs.Readers.{kept, reader_means, reader_port, leaves, D
 
 -- The reader moved on by a line of n bytes.
 pub record Moved (r s : TextReader) (n : ℕ) : Type 0 where
-  pub bytes : s.bytes ≡ r.bytes
-  pub start : s.start ≡ r.start + n
-  pub end : s.end ≡ r.end
+  pub kept : s.kept ≡ drop n r.kept
   pub line : s.next.line ≡ r.next.line + 1
   pub closed : s.closed ≡ r.closed
 
@@ -22,24 +19,12 @@ same_kind : (c d : Bool) (xs ys : List ℕ) → d ≡ c → SameKind (keeping_po
 same_kind true d xs ys e = ap (λ b. keeping_port b ys) e
 same_kind false d xs ys e = (4096 - length ys, ap (λ b. keeping_port b ys) e)
 
-drop_part : (bs : List ℕ) (from to n : ℕ) → n ≤ to - from → take (to - (from + n)) (drop (from + n) bs) ≡ drop n (take (to - from) (drop from bs))
-drop_part bs from to n h =
-    let m : ℕ = to - (from + n) in
-    let e : to - from ≡ n + m = omega arith in
-    ap (take m) (sym (drop-drop n from bs)) ∙ sym (drop-take n m (drop from bs)) ∙ ap (λ (k : ℕ). drop n (take k (drop from bs))) (sym e)
-
 module _ (r s : TextReader) (line : Line) (moved : Moved r s line.length) (front : FrontLine r.closed r.next.line r.next.vertex (kept r) line) where
   abbrev rest : List ℕ
   rest = drop line.length (kept r)
 
   pub kept_moved : kept s ≡ rest
-  kept_moved =
-      let i = front.inside in
-      let l = length-take (r.end - r.start) (drop r.start r.bytes) in
-      ap (λ (bs : List ℕ). take (s.end - s.start) (drop s.start bs)) moved.bytes
-      ∙ ap (λ (k : ℕ). take (k - s.start) (drop s.start r.bytes)) moved.end
-      ∙ ap (λ (k : ℕ). take (r.end - k) (drop k r.bytes)) moved.start
-      ∙ drop_part r.bytes r.start r.end line.length (omega arith)
+  kept_moved = moved.kept
 
   line_moved : s.next.line ≡ suc r.next.line
   line_moved = moved.line ∙ add-one r.next.line
