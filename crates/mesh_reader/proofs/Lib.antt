@@ -1,5 +1,6 @@
 mod Words
 mod Magnitudes
+mod Threes
 mod FirstWords
 mod FrontLines
 mod LinesTaken
