@@ -3,4 +3,3 @@ mod Magnitudes
 mod Threes
 mod FirstWords
 mod FrontLines
-mod LinesTaken

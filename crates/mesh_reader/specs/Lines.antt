@@ -1,4 +1,4 @@
--- The first word of a line, and what is left of the line behind it.
+-- The first word of a line, and what is left of the line behind it; how other words are read.
 use Rattle.std.specs.Prelude.{◌≡◌, ℕ, List, Option, Result}
 use Rattle.mesh_stream.specs.declared.fault.Cause.{Cause}
 use Rattle.mesh_reader.specs.declared.numeral.Numeral.{Numeral}

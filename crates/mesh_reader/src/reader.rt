@@ -9,6 +9,6 @@ use crate::numbers::Numbers;
 pub struct TextReader {
     kept: Kept,
     next: Numbers,
-    // a flag, since feed and close must find out at run time whether the reader is closed, and a type for each state cannot say
+    // a flag, since a closed reader must still answer feed and close, with a refusal: a type of its own would not have these calls
     closed: bool,
 }

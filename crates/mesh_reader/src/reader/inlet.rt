@@ -21,27 +21,20 @@ impl TextReader {
                 Standing::Waiting
             });
         };
-        // The last two arms are apart, since one arm that maps the event reads a text more slowly.
-        match in_time(self.next.line, line.content) {
-            Err(cause) => {
-                let fault = Fault {
-                    layer: LayerName::Reader,
-                    cause,
-                    place: self.next.line,
-                };
-                Err(Standing::Faulty(fault))
-            }
-            Ok(None) => {
-                self.kept.consume(line.length);
-                self.next.line += 1;
-                Ok(None)
-            }
-            Ok(Some(event)) => {
-                self.kept.consume(line.length);
-                self.next.pass(&event);
-                Ok(Some(event))
-            }
+        let place = self.next.line;
+        let content = in_time(place, line.content).map_err(|cause| {
+            Standing::Faulty(Fault {
+                layer: LayerName::Reader,
+                cause,
+                place,
+            })
+        })?;
+        self.kept.consume(line.length);
+        match &content {
+            None => self.next.line += 1,
+            Some(event) => self.next.pass(event),
         }
+        Ok(content)
     }
 
     // Feeding and closing are refused once the reader is closed.
