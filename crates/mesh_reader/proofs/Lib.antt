@@ -1,6 +1,5 @@
 mod Words
 mod Magnitudes
+mod Threes
 mod FirstWords
 mod FrontLines
-mod LinesTaken
-mod Feeding

@@ -1,5 +1,7 @@
--- The first word of a line, and what is left of the line behind it.
-use Rattle.std.specs.Prelude.{◌≡◌, ℕ, List}
+-- The first word of a line, and what is left of the line behind it; how other words are read.
+use Rattle.std.specs.Prelude.{◌≡◌, ℕ, List, Option, Result}
+use Rattle.mesh_stream.specs.declared.fault.Cause.{Cause}
+use Rattle.mesh_reader.specs.declared.numeral.Numeral.{Numeral}
 use Rattle.mesh_reader.specs.declared.content.FirstWord.{FirstWord}
 use Rattle.mesh_reader.specs.declared.content.FirstWord.TheVariants.{Missing, Comment, Letter, Other}
 use Rattle.mesh_reader.specs.Scanning.{rest_words, SameLine}
@@ -16,3 +18,10 @@ pub record Begun (old : List ℕ) (word : FirstWord) (new : List ℕ) : Type 0 w
   pub same : SameLine old new
   pub is : word ≡ first_word (rest_words old)
   pub left : LeftBehind word old new
+
+-- each call reads a word by this rule
+abbrev pub IsReading : {A : Type 0} → (Option Numeral → Result A Cause → Type 0) → (Option Numeral → Result A Cause) → Type 0
+IsReading {A} post rule = (w : Option Numeral) (r : Result A Cause) → post w r → r ≡ rule w
+
+abbrev pub tuple : {A : Type 0} → A → A → A → A × A × A
+tuple a b c = (a, b, c)

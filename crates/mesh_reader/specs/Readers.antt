@@ -1,6 +1,5 @@
 -- The text reader by its fields.
 use Rattle.std.specs.Prelude.{◌≡◌, ℕ, ◌<◌, Bool, true, false, List, ◌++◌, length, take, Some, None, Ok, Err, Option, Result}
-use Rattle.std.specs.List.{between}
 use Rattle.mesh_stream.specs.declared.event.Event.{Event}
 use Rattle.mesh_stream.specs.declared.fault.Refusal.{Refusal}
 use Rattle.mesh_stream.specs.declared.fault.Refusal.TheVariants.{InletClosed}
@@ -13,7 +12,7 @@ use Rattle.mesh_reader.specs.Keeping.{keeping, keeping_port, keeping_lawful, kee
 
 -- the bytes that it took and has not read yet
 abbrev pub kept : TextReader → List ℕ
-kept r = between r.start r.end r.bytes
+kept r = r.kept
 
 abbrev pub reader_means : TextReader → Meaning Event
 reader_means r = keeping r.closed r.next.line r.next.vertex (kept r)
@@ -48,12 +47,7 @@ LineTaken r (Ok None) s = Dropped r s
 LineTaken r (Ok (Some e)) s = Answered r (Ok e) s
 LineTaken r (Err x) s = Answered r (Err x) s
 
--- Only the bytes moved: the numbers of what is next and whether it is closed are as they were.
-pub record SameBut (r s : TextReader) : Type 0 where
-  pub next : s.next ≡ r.next
-  pub closed : s.closed ≡ r.closed
-
--- Refused with number 1 exactly where it is closed.
+-- Refused exactly where it is closed.
 abbrev pub OpenOr : Result (Unit {0}) Refusal → Bool → Type 0
 OpenOr (Ok _) is_closed = is_closed ≡ false
 OpenOr (Err e) is_closed = (is_closed ≡ true) × (e ≡ InletClosed)

@@ -23,7 +23,7 @@ then (Err c) next = Err c
 abbrev pub exactly : {A : Type 0} → ℕ → List A → Option (List A)
 exactly n xs = cond (length xs == n) (Some xs) None
 
-abbrev pub of_three : {A : Type 0} → (Option Numeral → Result A Cause) → (A → A → A → Event) → Option (List (Option Numeral)) → Result Event Cause
+abbrev pub of_three : {A B : Type 0} → (Option Numeral → Result A Cause) → (A → A → A → B) → Option (List (Option Numeral)) → Result B Cause
 of_three read make (Some (a ∷ (b ∷ (c ∷ [])))) = then (read a) λ i. then (read b) λ j. then (read c) λ k. Ok (make i j k)
 of_three read make _ = Err WordCount
 

@@ -3,6 +3,7 @@
 
 mod content;
 pub mod examples;
+mod kept;
 mod line;
 mod numbers;
 mod numeral;

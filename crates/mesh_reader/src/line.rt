@@ -5,7 +5,7 @@ ghost use Rattle.mesh_reader.specs.Numerals.{coordinate_of, vertex_of};
 ghost use Rattle.mesh_reader.specs.Scanning.{front, rest_words, rest_numerals, SameLine};
 ghost use Rattle.mesh_reader.specs.Reading.{of_three, of_one, vertex_event, by_letter, by_words, in_time};
 ghost use Rattle.mesh_reader.specs.Keeping.{Front};
-ghost use Rattle.mesh_reader.specs.Lines.{Begun};
+ghost use Rattle.mesh_reader.specs.Lines.{Begun, IsReading, tuple};
 
 use super::content::{FirstWord, Line};
 use super::numbers::Numbers;
@@ -19,33 +19,34 @@ const LONG_LINE: usize = 128;
 
 const MOST_LINES: u32 = 1_000_000_000;
 
-// Of a line's three kinds each reads its words by itself: what they share is a `?` a word.
+// Three words, each read in the same way.
+fn three<T: Copy, F: Fn(Option<Numeral>) -> Result<T, Cause>>(
+    words: Option<[Option<Numeral>; 3]>,
+    read: F,
+) -> Result<(T, T, T), Cause>
+    requires { F.IsAlwaysCallable read }
+    ensures { (rule : _) → IsReading (F.post read) rule → result ≡ of_three rule tuple words }
+{
+    let [a, b, c] = words.ok_or(Cause::WordCount)?;
+    Ok((read(a)?, read(b)?, read(c)?))
+}
+
 fn vertex(next: Numbers, words: Option<[Option<Numeral>; 3]>) -> Result<Event, Cause>
     ensures { result ≡ of_three coordinate_of (vertex_event next.line next.vertex) words }
 {
-    let [x, y, z] = words.ok_or(Cause::WordCount)?;
-    let at = Point {
-        x: coordinate(x)?,
-        y: coordinate(y)?,
-        z: coordinate(z)?,
-    };
+    let (x, y, z) = three(words, coordinate)?;
     Ok(Event::Vertex {
         place: next.line,
         number: next.vertex,
-        at,
+        at: Point { x, y, z },
     })
 }
 
 fn triangle(place: u32, words: Option<[Option<Numeral>; 3]>) -> Result<Event, Cause>
     ensures { result ≡ of_three vertex_of (Three place) words }
 {
-    let [a, b, c] = words.ok_or(Cause::WordCount)?;
-    Ok(Event::Triangle {
-        place,
-        a: vertex_number(a)?,
-        b: vertex_number(b)?,
-        c: vertex_number(c)?,
-    })
+    let (a, b, c) = three(words, vertex_number)?;
+    Ok(Event::Triangle { place, a, b, c })
 }
 
 fn finalization(place: u32, words: Option<[Option<Numeral>; 1]>) -> Result<Event, Cause>
@@ -60,7 +61,7 @@ fn finalization(place: u32, words: Option<[Option<Numeral>; 1]>) -> Result<Event
 
 impl Rest<'_> {
     fn first_word(&mut self) -> FirstWord
-        ensures { Begun self.old.bytes.now result self.new.bytes.now }
+        ensures { Begun self.old result self.new }
     {
         self.skip_blanks();
         match self.next_in_word() {
@@ -73,8 +74,8 @@ impl Rest<'_> {
 
     // What the letter in front makes of the rest of the line.
     fn behind_letter(&mut self, letter: char, next: Numbers) -> Result<Event, Cause>
-        ensures same { SameLine self.old.bytes.now self.new.bytes.now }
-        ensures event { result ≡ by_letter next.line next.vertex letter (rest_numerals self.old.bytes.now) }
+        ensures same { SameLine self.old self.new }
+        ensures event { result ≡ by_letter next.line next.vertex letter (rest_numerals self.old) }
     {
         match letter {
             'v' => vertex(next, self.exactly()),
@@ -86,8 +87,8 @@ impl Rest<'_> {
 
     // What the line holds.
     fn content(&mut self, next: Numbers) -> Result<Option<Event>, Cause>
-        ensures same { SameLine self.old.bytes.now self.new.bytes.now }
-        ensures content { result ≡ by_words next.line next.vertex (rest_words self.old.bytes.now) }
+        ensures same { SameLine self.old self.new }
+        ensures content { result ≡ by_words next.line next.vertex (rest_words self.old) }
     {
         match self.first_word() {
             FirstWord::Missing | FirstWord::Comment => Ok(None),

@@ -34,7 +34,7 @@ pub(crate) fn vertex_number(word: Option<Numeral>) -> Result<u32, Cause>
     if minus {
         return Err(Cause::NotANumber);
     }
-    if size == 0 || size > LARGEST_VERTEX {
+    if !(1..=LARGEST_VERTEX).contains(&size) {
         return Err(Cause::OutOfRange);
     }
     Ok(size)

@@ -1,24 +1,14 @@
-ghost use Rattle.std.specs.Prelude.{◌≡◌, ◌≤◌, length};
-
 pub mod inlet;
 mod start;
 
+use crate::kept::Kept;
 use crate::numbers::Numbers;
 
-// How many bytes a reader can keep.
-const CAPACITY: usize = 4096;
-
-// The text reader. It keeps the bytes that it took and has not read yet, `bytes[start..end]`; reading a line moves `start`, and
-// only feeding moves bytes. An array, since a reader's memory is fixed and lies in no heap.
+// The text reader: the bytes that it took and has not read yet, and the numbers that come next.
 #[derive(Drop)]
 pub struct TextReader {
-    bytes: [u8; CAPACITY],
-    start: usize,
-    end: usize,
+    kept: Kept,
     next: Numbers,
-    // a flag, since feed and close answer at run time whether it is closed: types for both would need a third that is either
+    // a flag, since a closed reader must still answer feed and close, with a refusal: a type of its own would not have these calls
     closed: bool,
-    ghost size: { length bytes ≡ 4096 },
-    ghost ordered: { start ≤ end },
-    ghost inside: { end ≤ 4096 },
 }

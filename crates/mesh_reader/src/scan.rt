@@ -1,19 +1,26 @@
-ghost use Rattle.std.specs.Prelude.{◌≡◌, ◌≤◌, ◌==◌, ℕ, Bool};
+ghost use Rattle.std.specs.Prelude.{◌≡◌, ◌≤◌, ◌==◌, ℕ, List, Bool};
 ghost use Rattle.mesh_reader.specs.Text.{blank, line_end};
 ghost use Rattle.mesh_reader.specs.Numerals.{digit, magnitude, numeral};
 ghost use Rattle.mesh_reader.specs.Reading.{exactly};
 ghost use Rattle.mesh_reader.specs.Scanning.{separates, in_word, front, behind, past_blanks, at_word_end, rest_numerals, SameLine, IsTest, NextIf, NextMinus, Next, leading};
 
 use super::numeral::Numeral;
+use std::marker::Model;
 
 // A number has no more digits.
 const MOST_DIGITS: usize = 9;
 
 // What is left of a line as it is gone through from left to right, each byte looked at once. Behind it there may be more of the
 // text, which is not looked at: the line's end need not be known before.
-#[derive(Clone, Copy)]
+#[derive(Drop)]
 pub(crate) struct Rest<'a> {
     pub bytes: &'a [u8],
+}
+
+impl<'a> Model for Rest<'a> {
+    ghost Value = { List ℕ };
+
+    ghost view = { λ r. r.bytes.now };
 }
 
 fn is_blank(byte: u8) -> bool
@@ -44,7 +51,7 @@ impl Rest<'_> {
     // Past all before the next byte of this kind.
     fn skip_to<F: Fn(u8) -> bool>(&mut self, stops: F)
         requires { F.IsAlwaysCallable stops }
-        ensures { (kind : ℕ → Bool) → IsTest (F.post stops) kind → self.new.bytes.now ≡ behind kind self.old.bytes.now }
+        ensures { (kind : ℕ → Bool) → IsTest (F.post stops) kind → self.new ≡ behind kind self.old }
     {
         while let [byte, after @ ..] = self.bytes
             && !stops(*byte)
@@ -54,28 +61,28 @@ impl Rest<'_> {
     }
 
     pub(crate) fn skip_blanks(&mut self)
-        ensures { self.new.bytes.now ≡ past_blanks self.old.bytes.now }
+        ensures { self.new ≡ past_blanks self.old }
     {
         self.skip_to(|byte| !is_blank(byte));
     }
 
     // Past the word that goes on here.
     fn skip_word(&mut self)
-        ensures { self.new.bytes.now ≡ behind separates self.old.bytes.now }
+        ensures { self.new ≡ behind separates self.old }
     {
         self.skip_to(is_separator);
     }
 
     // To the line end, or behind the last byte where there is none.
     pub(crate) fn skip_line(&mut self)
-        ensures { self.new.bytes.now ≡ behind line_end self.old.bytes.now }
+        ensures { self.new ≡ behind line_end self.old }
     {
         self.skip_to(is_line_end);
     }
 
     // Whether no word goes on here.
     pub(crate) fn at_word_end(&self) -> bool
-        ensures { result ≡ at_word_end self.now.bytes.now }
+        ensures { result ≡ at_word_end self.now }
     {
         match self.bytes {
             [] => true,
@@ -86,7 +93,7 @@ impl Rest<'_> {
     // The next byte, if it is of this kind.
     fn next_if<F: Fn(u8) -> bool>(&mut self, is_wanted: F) -> Option<u8>
         requires { F.IsAlwaysCallable is_wanted }
-        ensures { (kind : ℕ → Bool) → IsTest (F.post is_wanted) kind → NextIf kind self.old.bytes.now result self.new.bytes.now }
+        ensures { (kind : ℕ → Bool) → IsTest (F.post is_wanted) kind → NextIf kind self.old result self.new }
     {
         match self.bytes {
             [byte, after @ ..] if is_wanted(*byte) => {
@@ -99,20 +106,20 @@ impl Rest<'_> {
 
     // The next byte of the word that goes on here.
     pub(crate) fn next_in_word(&mut self) -> Option<u8>
-        ensures { NextIf in_word self.old.bytes.now result self.new.bytes.now }
+        ensures { NextIf in_word self.old result self.new }
     {
         self.next_if(|byte| !is_separator(byte))
     }
 
     fn next_digit(&mut self) -> Option<u8>
-        ensures { NextIf digit self.old.bytes.now result self.new.bytes.now }
+        ensures { NextIf digit self.old result self.new }
     {
         self.next_if(|byte| byte.is_ascii_digit())
     }
 
     // Whether a minus is next, which is then passed.
     fn next_minus(&mut self) -> bool
-        ensures { NextMinus self.old.bytes.now result self.new.bytes.now }
+        ensures { NextMinus self.old result self.new }
     {
         self.next_if(is_minus).is_some()
     }
@@ -120,7 +127,7 @@ impl Rest<'_> {
     // The number that the next digits say, so many of them at the most.
     fn digits(&mut self, most: usize) -> u32
         requires { most ≤ 9 }
-        ensures { leading most 0 self.old.bytes.now ≡ (result, self.new.bytes.now) }
+        ensures { leading most 0 self.old ≡ (result, self.new) }
     {
         let mut value = 0;
         for _ in 0..most {
@@ -133,15 +140,15 @@ impl Rest<'_> {
     }
 
     fn digits_of_word(&mut self) -> u32
-        ensures { leading 9 0 self.old.bytes.now ≡ (result, self.new.bytes.now) }
+        ensures { leading 9 0 self.old ≡ (result, self.new) }
     {
         self.digits(MOST_DIGITS)
     }
 
     // What the digits of the word that goes on here say, if it has 1 to 9 digits and nothing else.
     fn magnitude(&mut self) -> Option<u32>
-        ensures after { self.new.bytes.now ≡ behind separates self.old.bytes.now }
-        ensures value { result ≡ magnitude (front separates self.old.bytes.now) }
+        ensures after { self.new ≡ behind separates self.old }
+        ensures value { result ≡ magnitude (front separates self.old) }
     {
         if self.at_word_end() {
             return None;
@@ -156,8 +163,8 @@ impl Rest<'_> {
 
     // The word that begins here, as a numeral if it is one.
     fn numeral(&mut self) -> Option<Numeral>
-        ensures after { self.new.bytes.now ≡ behind separates self.old.bytes.now }
-        ensures value { result ≡ numeral (front separates self.old.bytes.now) }
+        ensures after { self.new ≡ behind separates self.old }
+        ensures value { result ≡ numeral (front separates self.old) }
     {
         let minus = self.next_minus();
         let size = self.magnitude()?;
@@ -166,8 +173,8 @@ impl Rest<'_> {
 
     // The next word of the line, if there is one: as a numeral, if it is one.
     fn next_word(&mut self) -> Option<Option<Numeral>>
-        ensures same { SameLine self.old.bytes.now self.new.bytes.now }
-        ensures next { Next self.old.bytes.now result self.new.bytes.now }
+        ensures same { SameLine self.old self.new }
+        ensures next { Next self.old result self.new }
     {
         self.skip_blanks();
         if self.at_word_end() {
@@ -178,8 +185,8 @@ impl Rest<'_> {
 
     // The rest of the line as N words, if it has just so many.
     pub(crate) fn exactly<const N: usize>(&mut self) -> Option<[Option<Numeral>; N]>
-        ensures same { SameLine self.old.bytes.now self.new.bytes.now }
-        ensures words { result ≡ exactly N (rest_numerals self.old.bytes.now) }
+        ensures same { SameLine self.old self.new }
+        ensures words { result ≡ exactly N (rest_numerals self.old) }
     {
         let mut words = [None; N];
         for word in &mut words {

@@ -7,11 +7,7 @@ use std::test::Fail;
 fn a_line_of_127_bytes(rt: HostRuntime) -> Result<(), Fail> {
     let mut text = [b'-'; 132];
     text[0] = b'#';
-    text[127] = b'\n';
-    text[128] = b'x';
-    text[129] = b' ';
-    text[130] = b'1';
-    text[131] = b'\n';
+    text[127..132].copy_from_slice(b"\nx 1\n");
     let mut reader = open_with(&rt, &text)?;
     check_gives(&rt, &mut reader, &[finalization(2, 1)], Standing::Waiting);
     Ok(())

@@ -1,8 +1,8 @@
-ghost use Rattle.std.specs.Prelude.{◌≡◌, ◌-◌, ◌≤◌, min, length};
-ghost use Rattle.mesh_reader.specs.Readers.{kept, leaves, reader_means, reader_port, reader_lawful, reader_takes_text, LineTaken, SameBut, OpenOr, kept_fed};
+ghost use Rattle.std.specs.Prelude.{◌≡◌};
+ghost use Rattle.mesh_reader.specs.Readers.{kept, leaves, reader_means, reader_port, reader_lawful, reader_takes_text, LineTaken, OpenOr, kept_fed};
 ghost use Rattle.mesh_stream.specs.Calls.{Nexted, Fed, Closed};
 
-use super::{CAPACITY, TextReader};
+use super::TextReader;
 use crate::line::{front_line, in_time};
 use mesh_stream::event::Event;
 use mesh_stream::fault::{Fault, LayerName, Refusal};
@@ -14,35 +14,27 @@ impl TextReader {
     fn take_line(&mut self) -> Result<Option<Event>, Standing>
         ensures { LineTaken self.old result self.new }
     {
-        let Some(line) = front_line(&self.bytes[self.start..self.end], self.closed, self.next)
-        else {
+        let Some(line) = front_line(self.kept.as_slice(), self.closed, self.next) else {
             return Err(if self.closed {
                 Standing::Ended
             } else {
                 Standing::Waiting
             });
         };
-        // The last two arms are apart, since one arm that maps the event reads a text more slowly.
-        match in_time(self.next.line, line.content) {
-            Err(cause) => {
-                let fault = Fault {
-                    layer: LayerName::Reader,
-                    cause,
-                    place: self.next.line,
-                };
-                Err(Standing::Faulty(fault))
-            }
-            Ok(None) => {
-                self.start += line.length;
-                self.next.line += 1;
-                Ok(None)
-            }
-            Ok(Some(event)) => {
-                self.start += line.length;
-                self.next.pass(&event);
-                Ok(Some(event))
-            }
+        let place = self.next.line;
+        let content = in_time(place, line.content).map_err(|cause| {
+            Standing::Faulty(Fault {
+                layer: LayerName::Reader,
+                cause,
+                place,
+            })
+        })?;
+        self.kept.consume(line.length);
+        match &content {
+            None => self.next.line += 1,
+            Some(event) => self.next.pass(event),
         }
+        Ok(content)
     }
 
     // Feeding and closing are refused once the reader is closed.
@@ -53,42 +45,6 @@ impl TextReader {
             return Err(Refusal::InletClosed);
         }
         Ok(())
-    }
-
-    fn kept_len(&self) -> usize
-        ensures len { result ≡ length (kept self.now) }
-        ensures bound { result ≤ 4096 }
-    {
-        self.end - self.start
-    }
-
-    // How many bytes more it can keep.
-    fn free(&self) -> usize
-        ensures { result ≡ 4096 - length (kept self.now) }
-    {
-        CAPACITY - self.kept_len()
-    }
-
-    // How much of a piece of this length it can keep.
-    fn share(&self, piece_len: usize) -> usize
-        ensures { result ≡ min piece_len (4096 - length (kept self.now)) }
-    {
-        piece_len.min(self.free())
-    }
-
-    // Moves the bytes kept to the front of the array, so that all of the room lies behind them.
-    fn move_to_front(&mut self)
-        ensures moved { kept self.new ≡ kept self.old }
-        ensures start { self.new.start ≡ 0 }
-        ensures same { SameBut self.old self.new }
-    {
-        if self.start == 0 {
-            return;
-        }
-        let kept = self.end - self.start;
-        self.bytes.copy_within(self.start..self.end, 0);
-        self.start = 0;
-        self.end = kept;
     }
 }
 
@@ -117,7 +73,7 @@ impl Inlet for TextReader {
     ghost takes_text = { reader_takes_text };
 
     fn room(&self) -> usize {
-        if self.closed { 0 } else { self.free() }
+        if self.closed { 0 } else { self.kept.room() }
     }
 
     fn feed(&mut self, piece: &[u8]) -> Result<usize, Refusal>
@@ -125,12 +81,7 @@ impl Inlet for TextReader {
         ensures kept { kept self.new ≡ kept_fed (kept self.old) piece.now result }
     {
         self.check_open()?;
-        self.move_to_front();
-        let taken = self.share(piece.len());
-        let end = self.end + taken;
-        self.bytes[self.end..end].copy_from_slice(&piece[0..taken]);
-        self.end = end;
-        Ok(taken)
+        Ok(self.kept.take(piece))
     }
 
     fn close(&mut self) -> Result<(), Refusal>

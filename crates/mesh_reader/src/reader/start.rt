@@ -3,7 +3,8 @@ ghost use Rattle.mesh_stream.specs.Meaning.{Mark, open_for};
 ghost use Rattle.mesh_reader.specs.Reading.{reading};
 ghost use Rattle.mesh_reader.specs.contracts.reader.inlet.TextReaderStage.TheImpl.{ghosts as reads};
 
-use super::{CAPACITY, TextReader};
+use super::TextReader;
+use crate::kept::Kept;
 use crate::numbers::Numbers;
 
 impl TextReader {
@@ -13,9 +14,7 @@ impl TextReader {
         ensures port { reads.port result ≡ open_for 4096 }
     {
         TextReader {
-            bytes: [0; CAPACITY],
-            start: 0,
-            end: 0,
+            kept: Kept::new(),
             next: Numbers { line: 1, vertex: 1 },
             closed: false,
         }

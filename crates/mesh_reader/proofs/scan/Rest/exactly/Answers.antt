@@ -12,15 +12,15 @@ loop-word-preserved g c =
     record {
       same = e.same ∙ i.same;
       size = length-set c.loop-word.word-items c.loop-word.word-index word ∙ i.size;
-      read = read_more c.loop-word.word-index c.loop-word.word-items (rest_numerals c.args.self.now.bytes.now) (rest_numerals c.loop-word.self.bytes.now) (rest_numerals c.next_word.new.self.bytes.now) word (omega arith) i.read e.next;
+      read = read_more c.loop-word.word-index c.loop-word.word-items (rest_numerals c.args.self.now) (rest_numerals c.loop-word.self) (rest_numerals c.next_word.new.self) word (omega arith) i.read e.next;
     }
 
 pub returns-in-None-clause-words : goal.returns-in-None-clause-words
 returns-in-None-clause-words g c =
     let i = c.loop-word.invariant in
-    sym (all_read g.row.N c.loop-word.word-index c.loop-word.word-items (rest_numerals c.args.self.now.bytes.now) (rest_numerals c.loop-word.self.bytes.now) c.loop-word.auto.word-index-end c.loop-word-test.false i.size i.read c.in-None.ensures.next)
+    sym (all_read g.row.N c.loop-word.word-index c.loop-word.word-items (rest_numerals c.args.self.now) (rest_numerals c.loop-word.self) c.loop-word.auto.word-index-end c.loop-word-test.false i.size i.read c.in-None.ensures.next)
 
 pub returns-in-Some-clause-words : goal.returns-in-Some-clause-words
 returns-in-Some-clause-words g c =
     let i = c.loop-word.invariant in
-    sym (more_left g.row.N c.loop-word.word-index c.loop-word.word-items (rest_numerals c.args.self.now.bytes.now) (rest_numerals c.loop-word.self.bytes.now) c.loop-word.auto.word-index-end c.loop-word-test.false i.size i.read c.in-Some.field-0 (rest_numerals c.next_word-2.new.self.bytes.now) c.in-Some.ensures.next)
+    sym (more_left g.row.N c.loop-word.word-index c.loop-word.word-items (rest_numerals c.args.self.now) (rest_numerals c.loop-word.self) c.loop-word.auto.word-index-end c.loop-word-test.false i.size i.read c.in-Some.field-0 (rest_numerals c.next_word-2.new.self) c.in-Some.ensures.next)

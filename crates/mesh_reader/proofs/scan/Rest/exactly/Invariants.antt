@@ -4,7 +4,7 @@ use Rattle.mesh_reader.proofs.scan.Rest.exactly.Given as goal
 
 abbrev pub invariant-loop-word : goal.invariant-loop-word
 invariant-loop-word g l = record {
-  same : SameLine l.initial.self.bytes.now l.self.bytes.now;
+  same : SameLine l.initial.self l.self;
   size : length l.word-items ≡ g.row.N;
-  read : rest_numerals l.initial.self.bytes.now ≡ take l.word-index l.word-items ++ rest_numerals l.self.bytes.now;
+  read : rest_numerals l.initial.self ≡ take l.word-index l.word-items ++ rest_numerals l.self;
 }

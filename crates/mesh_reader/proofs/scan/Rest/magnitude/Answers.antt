@@ -4,8 +4,8 @@ use Rattle.mesh_reader.proofs.scan.Rest.magnitude.Goals as goal
 
 pub returns-then-at_word_end-2 : goal.returns-then-at_word_end-2
 returns-then-at_word_end-2 c =
-    let old = c.args.self.now.bytes.now in
-    let rest = c.digits_of_word-value.new.self.bytes.now in
+    let old = c.args.self.now in
+    let rest = c.digits_of_word-value.new.self in
     let v = c.digits_of_word-value.result in
     let e = sym c.if-at_word_end-2.ensures in
     record {
@@ -15,8 +15,8 @@ returns-then-at_word_end-2 c =
 
 pub returns : goal.returns
 returns c =
-    let old = c.args.self.now.bytes.now in
-    let rest = c.digits_of_word-value.new.self.bytes.now in
+    let old = c.args.self.now in
+    let rest = c.digits_of_word-value.new.self in
     let v = c.digits_of_word-value.result in
     let e = sym c.if-at_word_end-2.ensures in
     record {
