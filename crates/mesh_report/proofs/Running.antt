@@ -1,6 +1,7 @@
 -- Runs of a report over a stage, event by event.
-use Rattle.std.proofs.Common.{◌≡◌, ℕ, ◌+◌, ◌<◌, ◌≤◌, true, false, cond, ◌⊎◌, List, [], ◌∷◌, ◌++◌, length, take, Some, None, Option, sym, refl, ap, ◌∙◌, subst, inl, inr, append_assoc, append-nil, arith, length-append}
+use Rattle.std.proofs.Common.{◌≡◌, ℕ, ◌+◌, ◌<◌, ◌≤◌, true, cond, ◌⊎◌, List, [], ◌∷◌, ◌++◌, length, take, Some, None, Option, Ok, Err, Result, sym, refl, ap, ◌∙◌, subst, inl, inr, append_assoc, append-nil, arith, length-append}
 use Rattle.std.proofs.lemmas.List.{take_at}
+use Rattle.std.specs.Result.{MatchResult, IsErrAnd}
 use Rattle.std.proofs.lemmas.Bool.{le-leb, lt-leb}
 use Rattle.mesh_stream.specs.declared.event.Event.{Event}
 use Rattle.mesh_stream.specs.declared.fault.Cause.{Cause}
@@ -18,7 +19,7 @@ use Rattle.mesh_judge.specs.Judging.{KnowsList, live_limit, window_of, Stands}
 use Rattle.mesh_judge.specs.Accepting.{refusal, Accepted, fault, stands_over}
 use Rattle.mesh_judge.proofs.Splitting.{judged_after, judged_all, judged_stop}
 use Rattle.mesh_report.specs.declared.report.Report.{Report}
-use Rattle.mesh_report.specs.Reporting.{reported, once_asked_for, Taken, TakesMore, TakesNone, Halted, GoesOn, Runs, RanFrom, RanOutFrom, Asked}
+use Rattle.mesh_report.specs.Reporting.{reported, once_asked_for, Taken, TakesMore, TakesNone, Halted, GoesOn, Runs, RanFrom, RanOutFrom, Took, Stops, Asked}
 
 pub same_kind : (p q u : Port) → SameKind p q → SameKind q u → SameKind p u
 same_kind textless q u a b = subst (λ (z : Port). SameKind z u) a b
@@ -51,8 +52,8 @@ running_none r p G w = record {
 }
 
 module _ (r s u : Report) (p : Port) (G : Meaning Event) (q : Port) (H : Meaning Event) (v : Port) (K : Meaning Event) (n : ℕ) (run : Running r s p G q H n) where
-  pub running_more : Asked s u q H v K true → Running r u p G v K (n + 1)
-  running_more (e, one, hands) = record {
+  running_one : Asked s u q H v K (Ok tt) → Running r u p G v K (n + 1)
+  running_one (e, one, hands) = record {
     took = run.took ++ (e ∷ []);
     count = length-append run.took (e ∷ []) ∙ ap (λ k. k + 1) run.count;
     takes = λ es h. subst (Taken u) (append_assoc es run.took (e ∷ [])) (one.takes (es ++ run.took) (run.takes es h));
@@ -63,11 +64,15 @@ module _ (r s u : Report) (p : Port) (G : Meaning Event) (q : Port) (H : Meaning
     };
   }
 
+  pub running_more : (a : Result (Unit {0}) Standing) → ((so : Standing) → a ≡ Err so → ⊥) → Asked s u q H v K a → Running r u p G v K (n + 1)
+  running_more (Ok x) f asked = running_one asked
+  running_more (Err so) f asked = absurd (f so refl)
+
   -- Nothing more is taken: the run halts behind the events taken.
-  pub takes_no_more : Asked s u q H v K false → TakesMore r u run.took
+  pub takes_no_more : Stops s u q H v K → TakesMore r u run.took
   takes_no_more (takes, kind, ends) es h = subst (Taken u) (append-nil (es ++ run.took)) (takes (es ++ run.took) (run.takes es h))
 
-  pub halts : Asked s u q H v K false → Halted r u p G v K run.took
+  pub halts : Stops s u q H v K → Halted r u p G v K run.took
   halts (takes, kind, inl (below, none)) = inl (
     below,
     record {
@@ -96,10 +101,10 @@ same_taken s u es j t h = record {
   limit = ap live_limit j ∙ h.limit;
 }
 
-pub met_fault : (r s u : Report) (p : Port) (G : Meaning Event) (q : Port) (H : Meaning Event) (e : Event) (c : Cause) (l : ℕ)
-    → u.judge ≡ s.judge → u.totals ≡ s.totals → u.standing ≡ fault ReportName c l → l ≡ place_of e → TakesNone r s e c → HandsOver p G e q H → Asked r u p G q H false
-met_fault r s u p G q H e c l j t st pl none hands = (
-  (λ es h. same_taken s u (es ++ []) j t (none.takes es h)),
+pub met_fault : (r s : Report) (p : Port) (G : Meaning Event) (q : Port) (H : Meaning Event) (e : Event) (c : Cause)
+    → TakesNone r s e c → HandsOver p G e q H → Asked r s p G q H (Err (fault ReportName c (place_of e)))
+met_fault r s p G q H e c none hands u so = (
+  (λ es h. same_taken s u (es ++ []) so.judge so.totals (none.takes es h)),
   hands.port_kept,
   inr (
     e,
@@ -107,7 +112,7 @@ met_fault r s u p G q H e c l j t st pl none hands = (
     record {
       behind = λ t m. hands.first t m;
       why = λ es h. subst (λ (z : List Event). refusal 1024 z e ≡ Some c) (sym (append-nil es)) (none.why es h);
-      standing = st ∙ ap (fault ReportName c) pl;
+      standing = so.standing;
     },
   ),
 )
@@ -121,21 +126,27 @@ ending_waits w Ended h = at (first w.at w.highest) h
     at (Some v) x = x
 ending_waits w (Faulty f) h = h
 
-pub gave_none : (r u : Report) (p : Port) (G : Meaning Event) (q : Port) (H : Meaning Event) (below : Standing)
-    → u.judge ≡ r.judge → u.totals ≡ r.totals → Stands r.judge ReportName below u.standing → Idles p G below q H → Asked r u p G q H false
-gave_none r u p G q H below j t st idles = (
-  (λ es h. same_taken r u (es ++ []) j t (subst (Taken r) (sym (append-nil es)) h)),
+pub gave_none : (r : Report) (p : Port) (G : Meaning Event) (q : Port) (H : Meaning Event) (below st : Standing)
+    → Stands r.judge ReportName below st → Idles p G below q H → Asked r r p G q H (Err st)
+gave_none r p G q H below st stands idles u so = (
+  (λ es h. same_taken r u (es ++ []) so.judge so.totals (subst (Taken r) (sym (append-nil es)) h)),
   idles.port_kept,
   inl (
     below,
     record {
       behind = λ t m. sym (idles.same t m);
       none = idles.same [] unclosed ∙ idles.none;
-      standing = λ es h. st.by_list es h.knows ∙ ap (λ (z : List Event). stands_over ReportName z below) (sym (append-nil es));
-      roomy = λ w. idles.roomy (ending_waits (window_of r.judge) below (subst IsWaiting st.by_window w));
+      standing = λ es h. so.standing ∙ stands.by_list es h.knows ∙ ap (λ (z : List Event). stands_over ReportName z below) (sym (append-nil es));
+      roomy = λ w. idles.roomy (ending_waits (window_of r.judge) below (subst IsWaiting (so.standing ∙ stands.by_window) w));
     },
   ),
 )
+
+pub asked_one : (r s : Report) (p : Port) (G : Meaning Event) (q : Port) (H : Meaning Event) (e : Event) (t : Result (Unit {0}) Cause) (a : Result (Unit {0}) Standing) (P : Cause → Standing → Type 0)
+    → HandsOver p G e q H → Took r s e t → MatchResult t (λ x. a ≡ Ok x) (λ c. IsErrAnd a (P c)) → ((c : Cause) (x : Standing) → P c x → x ≡ fault ReportName c (place_of e)) → Asked r s p G q H a
+asked_one r s p G q H e (Ok tt) a P n k m f = subst (Asked r s p G q H) (sym m) (e, k, n)
+asked_one r s p G q H e (Err c) (Ok y) P n k m f = absurd m
+asked_one r s p G q H e (Err c) (Err st) P n k m f = subst (λ (z : Standing). Asked r s p G q H (Err z)) (sym (f c st m)) (met_fault r s p G q H e c k n)
 
 -- The same by the whole list.
 
@@ -193,7 +204,7 @@ module _ (r s : Report) (p : Port) (G : Meaning Event) (q : Port) (H : Meaning E
   pub ran_all : (n : ℕ) → r.standing ≡ Waiting → Running r s p G q H n → RanFrom r s p G q H r.standing n n
   ran_all n w run = at_standing r.standing n n w (run.took, sym run.count, runs n run.took run.takes run.port_kept (inl (run.count, run.goes_on)))
 
-module _ (r s u : Report) (p : Port) (G : Meaning Event) (q : Port) (H : Meaning Event) (v : Port) (K : Meaning Event) (w : r.standing ≡ Waiting) (k : ℕ) (run : Running r s p G q H k) (none : Asked s u q H v K false) where
+module _ (r s u : Report) (p : Port) (G : Meaning Event) (q : Port) (H : Meaning Event) (v : Port) (K : Meaning Event) (w : r.standing ≡ Waiting) (k : ℕ) (run : Running r s p G q H k) (none : Stops s u q H v K) where
   halted_kind : SameKind p v
   halted_kind = same_kind p q v run.port_kept none.1
 
