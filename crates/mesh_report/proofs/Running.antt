@@ -9,7 +9,7 @@ use Rattle.mesh_stream.specs.declared.fault.LayerName.TheVariants.{Report as Rep
 use Rattle.mesh_stream.specs.declared.stage.Standing.{Standing}
 use Rattle.mesh_stream.specs.declared.stage.Standing.TheVariants.{Waiting, Ended, Faulty}
 use Rattle.mesh_stream.specs.Events.{place_of}
-use Rattle.mesh_stream.specs.Meaning.{unclosed, Outcome, outcome, Meaning, Port, textless, open_for, shut, IsWaiting}
+use Rattle.mesh_stream.specs.Meaning.{Mark, unclosed, Outcome, outcome, Meaning, Port, textless, open_for, shut, IsWaiting}
 use Rattle.mesh_stream.specs.Calls.{SameKind, HandsOver, Idles}
 use Rattle.mesh_stream.specs.Runs.{prepends}
 use Rattle.mesh_judge.specs.declared.judge.Judge.{Judge}
@@ -19,7 +19,7 @@ use Rattle.mesh_judge.specs.Judging.{KnowsList, live_limit, window_of, Stands}
 use Rattle.mesh_judge.specs.Accepting.{refusal, Accepted, fault, stands_over}
 use Rattle.mesh_judge.proofs.Splitting.{judged_after, judged_all, judged_stop}
 use Rattle.mesh_report.specs.declared.report.Report.{Report}
-use Rattle.mesh_report.specs.Reporting.{reported, once_asked_for, Taken, TakesMore, TakesNone, Halted, GoesOn, Runs, RanFrom, RanOutFrom, Took, Stops, Asked}
+use Rattle.mesh_report.specs.Reporting.{reported, once_asked_for, Taken, TakesMore, TakesNone, MetFault, Halted, GoesOn, Runs, RanFrom, RanOutFrom, Took, Stops, Asked}
 
 pub same_kind : (p q u : Port) → SameKind p q → SameKind q u → SameKind p u
 same_kind textless q u a b = subst (λ (z : Port). SameKind z u) a b
@@ -157,20 +157,23 @@ module _ (r s : Report) (p : Port) (G : Meaning Event) (q : Port) (H : Meaning E
   abbrev all_so_far : Outcome Event
   all_so_far = outcome (es ++ (G [] unclosed).items) (G [] unclosed).stands
 
+  pub whole_met : (e : Event) (c : Cause) → MetFault r s p G q H took e c → (t : List ℕ) (m : Mark) → reported (outcome (es ++ (G t m).items) (G t m).stands) ≡ outcome (es ++ took) s.standing
+  whole_met e c met t m =
+      ap (λ (o : Outcome Event). reported (outcome (es ++ o.items) o.stands)) (met.behind t m)
+      ∙ ap (λ (z : List Event). reported (outcome z (H t m).stands)) (regroup (H t m).items)
+      ∙ judged_stop (refusal 1024) ReportName (es ++ took) (accepted_of s (es ++ took) (takes es h)) e c (met.why es h) (H t m).items (H t m).stands
+      ∙ ap (outcome (es ++ took)) (sym met.standing)
+    where
+      regroup : (xs : List Event) → es ++ ((took ++ (e ∷ [])) ++ xs) ≡ (es ++ took) ++ (e ∷ xs)
+      regroup xs = simp append_assoc
+
   pub whole_halted : Halted r s p G q H took → reported all_so_far ≡ outcome (es ++ took) s.standing
   whole_halted (inl (below, none)) =
       let g : G [] unclosed ≡ outcome took below = none.behind [] unclosed ∙ ap (prepends took) none.none ∙ ap (λ (z : List Event). outcome z below) (append-nil took) in
       ap (λ (o : Outcome Event). reported (outcome (es ++ o.items) o.stands)) g
       ∙ judged_all (refusal 1024) ReportName (es ++ took) (accepted_of s (es ++ took) (takes es h)) below
       ∙ ap (outcome (es ++ took)) (sym (none.standing es h))
-  whole_halted (inr (e, c, met)) =
-      ap (λ (o : Outcome Event). reported (outcome (es ++ o.items) o.stands)) (met.behind [] unclosed)
-      ∙ ap (λ (z : List Event). reported (outcome z (H [] unclosed).stands)) (regroup (H [] unclosed).items)
-      ∙ judged_stop (refusal 1024) ReportName (es ++ took) (accepted_of s (es ++ took) (takes es h)) e c (met.why es h) (H [] unclosed).items (H [] unclosed).stands
-      ∙ ap (outcome (es ++ took)) (sym met.standing)
-    where
-      regroup : (xs : List Event) → es ++ ((took ++ (e ∷ [])) ++ xs) ≡ (es ++ took) ++ (e ∷ xs)
-      regroup xs = simp append_assoc
+  whole_halted (inr (e, c, met)) = whole_met e c met [] unclosed
 
   asked_past : (n : ℕ) (xs : List Event) (st : Standing) → length xs < n → once_asked_for n (outcome xs st) ≡ outcome xs st
   asked_past n xs st l = ap (λ b. cond b (outcome (take n xs) Waiting) (outcome xs st)) (lt-leb n (length xs) l)
