@@ -1,7 +1,6 @@
 -- Runs of a report over a stage, event by event.
 use Rattle.std.proofs.Common.{◌≡◌, ℕ, ◌+◌, ◌<◌, ◌≤◌, true, cond, ◌⊎◌, List, [], ◌∷◌, ◌++◌, length, take, Some, None, Option, Ok, Err, Result, sym, refl, ap, ◌∙◌, subst, inl, inr, append_assoc, append-nil, arith, length-append}
 use Rattle.std.proofs.lemmas.List.{take_at}
-use Rattle.std.specs.Result.{MatchResult, IsErrAnd}
 use Rattle.std.proofs.lemmas.Bool.{le-leb, lt-leb}
 use Rattle.mesh_stream.specs.declared.event.Event.{Event}
 use Rattle.mesh_stream.specs.declared.fault.Cause.{Cause}
@@ -19,7 +18,7 @@ use Rattle.mesh_judge.specs.Judging.{KnowsList, live_limit, window_of, Stands}
 use Rattle.mesh_judge.specs.Accepting.{refusal, Accepted, fault, stands_over}
 use Rattle.mesh_judge.proofs.Splitting.{judged_after, judged_all, judged_stop}
 use Rattle.mesh_report.specs.declared.report.Report.{Report}
-use Rattle.mesh_report.specs.Reporting.{reported, once_asked_for, Taken, TakesMore, TakesNone, MetFault, Halted, GoesOn, Runs, RanFrom, RanOutFrom, Took, Stops, Asked}
+use Rattle.mesh_report.specs.Reporting.{reported, once_asked_for, Taken, TakesMore, TakesNone, MetFault, Halted, GoesOn, Runs, RanFrom, RanOutFrom, Stops, Asked}
 
 pub same_kind : (p q u : Port) → SameKind p q → SameKind q u → SameKind p u
 same_kind textless q u a b = subst (λ (z : Port). SameKind z u) a b
@@ -101,9 +100,9 @@ same_taken s u es j t h = record {
   limit = ap live_limit j ∙ h.limit;
 }
 
-pub met_fault : (r s : Report) (p : Port) (G : Meaning Event) (q : Port) (H : Meaning Event) (e : Event) (c : Cause)
-    → TakesNone r s e c → HandsOver p G e q H → Asked r s p G q H (Err (fault ReportName c (place_of e)))
-met_fault r s p G q H e c none hands u so = (
+pub met_fault : (r s : Report) (p : Port) (G : Meaning Event) (q : Port) (H : Meaning Event) (e : Event) (c : Cause) (l : ℕ)
+    → l ≡ place_of e → TakesNone r s e c → HandsOver p G e q H → Asked r s p G q H (Err (fault ReportName c l))
+met_fault r s p G q H e c l at none hands u so = (
   (λ es h. same_taken s u (es ++ []) so.judge so.totals (none.takes es h)),
   hands.port_kept,
   inr (
@@ -112,7 +111,7 @@ met_fault r s p G q H e c none hands u so = (
     record {
       behind = λ t m. hands.first t m;
       why = λ es h. subst (λ (z : List Event). refusal 1024 z e ≡ Some c) (sym (append-nil es)) (none.why es h);
-      standing = so.standing;
+      standing = so.standing ∙ ap (fault ReportName c) at;
     },
   ),
 )
@@ -141,12 +140,6 @@ gave_none r p G q H below st stands idles u so = (
     },
   ),
 )
-
-pub asked_one : (r s : Report) (p : Port) (G : Meaning Event) (q : Port) (H : Meaning Event) (e : Event) (t : Result (Unit {0}) Cause) (a : Result (Unit {0}) Standing) (P : Cause → Standing → Type 0)
-    → HandsOver p G e q H → Took r s e t → MatchResult t (λ x. a ≡ Ok x) (λ c. IsErrAnd a (P c)) → ((c : Cause) (x : Standing) → P c x → x ≡ fault ReportName c (place_of e)) → Asked r s p G q H a
-asked_one r s p G q H e (Ok tt) a P n k m f = subst (Asked r s p G q H) (sym m) (e, k, n)
-asked_one r s p G q H e (Err c) (Ok y) P n k m f = absurd m
-asked_one r s p G q H e (Err c) (Err st) P n k m f = subst (λ (z : Standing). Asked r s p G q H (Err z)) (sym (f c st m)) (met_fault r s p G q H e c k n)
 
 -- The same by the whole list.
 

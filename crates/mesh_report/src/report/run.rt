@@ -12,13 +12,15 @@ impl Report {
         ensures { Asked self.old self.new (S.Stage.port stage.old) (S.Stage.meaning stage.old) (S.Stage.port stage.new) (S.Stage.meaning stage.new) result }
     {
         match stage.next() {
-            Ok(event) => self.take(event).map_err(|cause| {
-                Standing::Faulty(Fault {
+            // with `map_err` in place of this match a report takes a tenth longer
+            Ok(event) => match self.take(event) {
+                Ok(()) => Ok(()),
+                Err(cause) => Err(Standing::Faulty(Fault {
                     layer: LayerName::Report,
                     cause,
                     place: event.place(),
-                })
-            }),
+                })),
+            },
             Err(below) => Err(self.judge.stand(LayerName::Report, below)),
         }
     }
