@@ -1,8 +1,7 @@
 -- Areas in 64 bits: differences of coordinates, their products, and the difference of two products.
 use Rattle.std.proofs.Common.{◌≡◌, ℕ, zero, suc, ◌+◌, ◌-◌, ◌*◌, ◌^◌, ◌<◌, ◌≤◌, Bool, true, false, cond, ◌&&◌, ltb, leb, ℤ, pos, negsuc, ◌+ℤ◌, ◌-ℤ◌, ◌*ℤ◌, neg_ℤ, nat_abs, sym, refl, ap, ◌∙◌, subst, mul-le-mul, arith, w32, w64, SFits, to_z, of_z}
 use lib.IntN.{sub_ℕ}
-use lib.Signed.{mag}
-use Rattle.std.proofs.lemmas.Int.{to_z-of_z}
+use Rattle.std.proofs.lemmas.Int.{to_z-of_z, unsigned_abs-mul, fits_signed_from_abs}
 use Rattle.std.proofs.lemmas.Bool.{and_parts, leb-true, ltb-true}
 use Rattle.mesh_stream.specs.declared.event.Point.{Point}
 use Rattle.mesh_stream.specs.Ranges.{coordinate, in_space}
@@ -12,21 +11,11 @@ abs_neg : (n : ℕ) → nat_abs (neg_ℤ (pos n)) ≡ n
 abs_neg zero = refl
 abs_neg (suc n) = refl
 
-abs_mul : (a b : ℤ) → nat_abs (a *ℤ b) ≡ nat_abs a * nat_abs b
-abs_mul (pos a) (pos b) = refl
-abs_mul (pos a) (negsuc b) = abs_neg (a * suc b)
-abs_mul (negsuc a) (pos b) = abs_neg (suc a * b)
-abs_mul (negsuc a) (negsuc b) = refl
-
 pub within_product : (m n : ℕ) (a b : ℤ) → Within m a → Within n b → Within (m * n) (a *ℤ b)
-within_product m n a b p q = record { abs = let h : nat_abs a * nat_abs b ≤ m * n = mul-le-mul p.abs q.abs in omega (arith, abs_mul a b) }
-
-mag_abs : (z : ℤ) → mag z ≤ nat_abs z
-mag_abs (pos n) = omega arith
-mag_abs (negsuc n) = omega arith
+within_product m n a b p q = record { abs = let h : nat_abs a * nat_abs b ≤ m * n = mul-le-mul p.abs q.abs in omega (arith, unsigned_abs-mul a b) }
 
 pub within_fits : (m : ℕ) (z : ℤ) → Within m z → m < 2 ^ 63 → SFits w64 z
-within_fits m z h l = record { sfits = let k = mag_abs z in let a = h.abs in omega arith }
+within_fits m z h l = fits_signed_from_abs w64 z (let a = h.abs in omega arith)
 
 abs_sub : (a b : ℕ) → nat_abs (sub_ℕ a b) ≤ a + b
 abs_sub a b = at (ltb a b) refl
@@ -58,7 +47,7 @@ within_coordinate (negsuc n) h = record { abs = let l = leb-true n 99999 (and_pa
 -- Passed on as bits and back.
 
 coordinate_fits : (z : ℤ) → coordinate z ≡ true → SFits w32 z
-coordinate_fits z h = record { sfits = let k = mag_abs z in let a = (within_coordinate z h).abs in omega arith }
+coordinate_fits z h = fits_signed_from_abs w32 z (let a = (within_coordinate z h).abs in omega arith)
 
 pub coordinate_bits : (z : ℤ) → coordinate z ≡ true → to_z w32 (of_z w32 z) ≡ z
 coordinate_bits z h = to_z-of_z w32 z (coordinate_fits z h)

@@ -1,5 +1,5 @@
 -- Runs of a report over a stage, event by event.
-use Rattle.std.proofs.Common.{◌≡◌, ℕ, ◌+◌, ◌<◌, ◌≤◌, true, false, cond, ◌⊎◌, List, [], ◌∷◌, ◌++◌, length, take, Some, None, Option, sym, refl, ap, ◌∙◌, subst, inl, inr, append_assoc, append-nil, arith, length-append}
+use Rattle.std.proofs.Common.{◌≡◌, ℕ, ◌+◌, ◌<◌, ◌≤◌, cond, ◌⊎◌, List, [], ◌∷◌, ◌++◌, length, take, Some, None, Option, Ok, Err, Result, sym, refl, ap, ◌∙◌, subst, inl, inr, append_assoc, append-nil, arith, length-append}
 use Rattle.std.proofs.lemmas.List.{take_at}
 use Rattle.std.proofs.lemmas.Bool.{le-leb, lt-leb}
 use Rattle.mesh_stream.specs.declared.event.Event.{Event}
@@ -8,7 +8,7 @@ use Rattle.mesh_stream.specs.declared.fault.LayerName.TheVariants.{Report as Rep
 use Rattle.mesh_stream.specs.declared.stage.Standing.{Standing}
 use Rattle.mesh_stream.specs.declared.stage.Standing.TheVariants.{Waiting, Ended, Faulty}
 use Rattle.mesh_stream.specs.Events.{place_of}
-use Rattle.mesh_stream.specs.Meaning.{unclosed, Outcome, outcome, Meaning, Port, textless, open_for, shut, IsWaiting}
+use Rattle.mesh_stream.specs.Meaning.{Mark, unclosed, Outcome, outcome, Meaning, Port, textless, open_for, shut, IsWaiting}
 use Rattle.mesh_stream.specs.Calls.{SameKind, HandsOver, Idles}
 use Rattle.mesh_stream.specs.Runs.{prepends}
 use Rattle.mesh_judge.specs.declared.judge.Judge.{Judge}
@@ -18,7 +18,7 @@ use Rattle.mesh_judge.specs.Judging.{KnowsList, live_limit, window_of, Stands}
 use Rattle.mesh_judge.specs.Accepting.{refusal, Accepted, fault, stands_over}
 use Rattle.mesh_judge.proofs.Splitting.{judged_after, judged_all, judged_stop}
 use Rattle.mesh_report.specs.declared.report.Report.{Report}
-use Rattle.mesh_report.specs.Reporting.{reported, once_asked_for, Taken, TakesMore, TakesNone, Halted, GoesOn, Runs, RanFrom, RanOutFrom, Asked}
+use Rattle.mesh_report.specs.Reporting.{reported, once_asked_for, Taken, TakesMore, TakesNone, MetFault, Halted, GoesOn, Runs, RanFrom, RanOutFrom, Stops, Asked}
 
 pub same_kind : (p q u : Port) → SameKind p q → SameKind q u → SameKind p u
 same_kind textless q u a b = subst (λ (z : Port). SameKind z u) a b
@@ -51,8 +51,8 @@ running_none r p G w = record {
 }
 
 module _ (r s u : Report) (p : Port) (G : Meaning Event) (q : Port) (H : Meaning Event) (v : Port) (K : Meaning Event) (n : ℕ) (run : Running r s p G q H n) where
-  pub running_more : Asked s u q H v K true → Running r u p G v K (n + 1)
-  running_more (e, one, hands) = record {
+  running_one : Asked s u q H v K (Ok tt) → Running r u p G v K (n + 1)
+  running_one (e, one, hands) = record {
     took = run.took ++ (e ∷ []);
     count = length-append run.took (e ∷ []) ∙ ap (λ k. k + 1) run.count;
     takes = λ es h. subst (Taken u) (append_assoc es run.took (e ∷ [])) (one.takes (es ++ run.took) (run.takes es h));
@@ -63,11 +63,15 @@ module _ (r s u : Report) (p : Port) (G : Meaning Event) (q : Port) (H : Meaning
     };
   }
 
+  pub running_more : (a : Result (Unit {0}) Standing) → ((so : Standing) → a ≡ Err so → ⊥) → Asked s u q H v K a → Running r u p G v K (n + 1)
+  running_more (Ok x) f asked = running_one asked
+  running_more (Err so) f asked = absurd (f so refl)
+
   -- Nothing more is taken: the run halts behind the events taken.
-  pub takes_no_more : Asked s u q H v K false → TakesMore r u run.took
+  pub takes_no_more : Stops s u q H v K → TakesMore r u run.took
   takes_no_more (takes, kind, ends) es h = subst (Taken u) (append-nil (es ++ run.took)) (takes (es ++ run.took) (run.takes es h))
 
-  pub halts : Asked s u q H v K false → Halted r u p G v K run.took
+  pub halts : Stops s u q H v K → Halted r u p G v K run.took
   halts (takes, kind, inl (below, none)) = inl (
     below,
     record {
@@ -96,10 +100,10 @@ same_taken s u es j t h = record {
   limit = ap live_limit j ∙ h.limit;
 }
 
-pub met_fault : (r s u : Report) (p : Port) (G : Meaning Event) (q : Port) (H : Meaning Event) (e : Event) (c : Cause) (l : ℕ)
-    → u.judge ≡ s.judge → u.totals ≡ s.totals → u.standing ≡ fault ReportName c l → l ≡ place_of e → TakesNone r s e c → HandsOver p G e q H → Asked r u p G q H false
-met_fault r s u p G q H e c l j t st pl none hands = (
-  (λ es h. same_taken s u (es ++ []) j t (none.takes es h)),
+pub met_fault : (r s : Report) (p : Port) (G : Meaning Event) (q : Port) (H : Meaning Event) (e : Event) (c : Cause) (l : ℕ)
+    → l ≡ place_of e → TakesNone r s e c → HandsOver p G e q H → Asked r s p G q H (Err (fault ReportName c l))
+met_fault r s p G q H e c l at none hands u so = (
+  (λ es h. same_taken s u (es ++ []) so.judge so.totals (none.takes es h)),
   hands.port_kept,
   inr (
     e,
@@ -107,7 +111,7 @@ met_fault r s u p G q H e c l j t st pl none hands = (
     record {
       behind = λ t m. hands.first t m;
       why = λ es h. subst (λ (z : List Event). refusal 1024 z e ≡ Some c) (sym (append-nil es)) (none.why es h);
-      standing = st ∙ ap (fault ReportName c) pl;
+      standing = so.standing ∙ ap (fault ReportName c) at;
     },
   ),
 )
@@ -121,18 +125,18 @@ ending_waits w Ended h = at (first w.at w.highest) h
     at (Some v) x = x
 ending_waits w (Faulty f) h = h
 
-pub gave_none : (r u : Report) (p : Port) (G : Meaning Event) (q : Port) (H : Meaning Event) (below : Standing)
-    → u.judge ≡ r.judge → u.totals ≡ r.totals → Stands r.judge ReportName below u.standing → Idles p G below q H → Asked r u p G q H false
-gave_none r u p G q H below j t st idles = (
-  (λ es h. same_taken r u (es ++ []) j t (subst (Taken r) (sym (append-nil es)) h)),
+pub gave_none : (r : Report) (p : Port) (G : Meaning Event) (q : Port) (H : Meaning Event) (below st : Standing)
+    → Stands r.judge ReportName below st → Idles p G below q H → Asked r r p G q H (Err st)
+gave_none r p G q H below st stands idles u so = (
+  (λ es h. same_taken r u (es ++ []) so.judge so.totals (subst (Taken r) (sym (append-nil es)) h)),
   idles.port_kept,
   inl (
     below,
     record {
       behind = λ t m. sym (idles.same t m);
       none = idles.same [] unclosed ∙ idles.none;
-      standing = λ es h. st.by_list es h.knows ∙ ap (λ (z : List Event). stands_over ReportName z below) (sym (append-nil es));
-      roomy = λ w. idles.roomy (ending_waits (window_of r.judge) below (subst IsWaiting st.by_window w));
+      standing = λ es h. so.standing ∙ stands.by_list es h.knows ∙ ap (λ (z : List Event). stands_over ReportName z below) (sym (append-nil es));
+      roomy = λ w. idles.roomy (ending_waits (window_of r.judge) below (subst IsWaiting (so.standing ∙ stands.by_window) w));
     },
   ),
 )
@@ -146,20 +150,23 @@ module _ (r s : Report) (p : Port) (G : Meaning Event) (q : Port) (H : Meaning E
   abbrev all_so_far : Outcome Event
   all_so_far = outcome (es ++ (G [] unclosed).items) (G [] unclosed).stands
 
+  pub whole_met : (e : Event) (c : Cause) → MetFault r s p G q H took e c → (t : List ℕ) (m : Mark) → reported (outcome (es ++ (G t m).items) (G t m).stands) ≡ outcome (es ++ took) s.standing
+  whole_met e c met t m =
+      ap (λ (o : Outcome Event). reported (outcome (es ++ o.items) o.stands)) (met.behind t m)
+      ∙ ap (λ (z : List Event). reported (outcome z (H t m).stands)) (regroup (H t m).items)
+      ∙ judged_stop (refusal 1024) ReportName (es ++ took) (accepted_of s (es ++ took) (takes es h)) e c (met.why es h) (H t m).items (H t m).stands
+      ∙ ap (outcome (es ++ took)) (sym met.standing)
+    where
+      regroup : (xs : List Event) → es ++ ((took ++ (e ∷ [])) ++ xs) ≡ (es ++ took) ++ (e ∷ xs)
+      regroup xs = simp append_assoc
+
   pub whole_halted : Halted r s p G q H took → reported all_so_far ≡ outcome (es ++ took) s.standing
   whole_halted (inl (below, none)) =
       let g : G [] unclosed ≡ outcome took below = none.behind [] unclosed ∙ ap (prepends took) none.none ∙ ap (λ (z : List Event). outcome z below) (append-nil took) in
       ap (λ (o : Outcome Event). reported (outcome (es ++ o.items) o.stands)) g
       ∙ judged_all (refusal 1024) ReportName (es ++ took) (accepted_of s (es ++ took) (takes es h)) below
       ∙ ap (outcome (es ++ took)) (sym (none.standing es h))
-  whole_halted (inr (e, c, met)) =
-      ap (λ (o : Outcome Event). reported (outcome (es ++ o.items) o.stands)) (met.behind [] unclosed)
-      ∙ ap (λ (z : List Event). reported (outcome z (H [] unclosed).stands)) (regroup (H [] unclosed).items)
-      ∙ judged_stop (refusal 1024) ReportName (es ++ took) (accepted_of s (es ++ took) (takes es h)) e c (met.why es h) (H [] unclosed).items (H [] unclosed).stands
-      ∙ ap (outcome (es ++ took)) (sym met.standing)
-    where
-      regroup : (xs : List Event) → es ++ ((took ++ (e ∷ [])) ++ xs) ≡ (es ++ took) ++ (e ∷ xs)
-      regroup xs = simp append_assoc
+  whole_halted (inr (e, c, met)) = whole_met e c met [] unclosed
 
   asked_past : (n : ℕ) (xs : List Event) (st : Standing) → length xs < n → once_asked_for n (outcome xs st) ≡ outcome xs st
   asked_past n xs st l = ap (λ b. cond b (outcome (take n xs) Waiting) (outcome xs st)) (lt-leb n (length xs) l)
@@ -193,7 +200,7 @@ module _ (r s : Report) (p : Port) (G : Meaning Event) (q : Port) (H : Meaning E
   pub ran_all : (n : ℕ) → r.standing ≡ Waiting → Running r s p G q H n → RanFrom r s p G q H r.standing n n
   ran_all n w run = at_standing r.standing n n w (run.took, sym run.count, runs n run.took run.takes run.port_kept (inl (run.count, run.goes_on)))
 
-module _ (r s u : Report) (p : Port) (G : Meaning Event) (q : Port) (H : Meaning Event) (v : Port) (K : Meaning Event) (w : r.standing ≡ Waiting) (k : ℕ) (run : Running r s p G q H k) (none : Asked s u q H v K false) where
+module _ (r s u : Report) (p : Port) (G : Meaning Event) (q : Port) (H : Meaning Event) (v : Port) (K : Meaning Event) (w : r.standing ≡ Waiting) (k : ℕ) (run : Running r s p G q H k) (none : Stops s u q H v K) where
   halted_kind : SameKind p v
   halted_kind = same_kind p q v run.port_kept none.1
 

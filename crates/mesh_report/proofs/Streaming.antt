@@ -9,13 +9,13 @@ use Rattle.mesh_stream.specs.declared.stage.Standing.TheVariants.{Waiting, Ended
 use Rattle.mesh_stream.specs.Meaning.{unclosed, closed, Outcome, outcome, Meaning, Port, textless, open_for, shut, Open, room, IsWaiting, Lawful}
 use Rattle.mesh_stream.specs.Calls.{Roomy, Takes, Refused, Closed}
 use Rattle.mesh_judge.specs.Accepting.{end_with, stands_over, refusal}
-use Rattle.mesh_judge.proofs.Splitting.{judged_all, judged_stop}
+use Rattle.mesh_judge.proofs.Splitting.{judged_all}
 use Rattle.mesh_report.specs.declared.totals.Totals.{Totals}
 use Rattle.mesh_report.specs.declared.report.Report.{Report}
 use Rattle.mesh_report.specs.Spelling.{report_text}
 use Rattle.mesh_report.specs.Reporting.{totals_of, reported, Taken, TakesMore, GaveNone, MetFault, Halted, StaysPut, RanOutFrom}
 use Rattle.mesh_report.specs.Streaming.{resumed, WillReport, report_of, Finished}
-use Rattle.mesh_report.proofs.Running.{accepted_of}
+use Rattle.mesh_report.proofs.Running.{accepted_of, whole_met}
 
 -- A report that ended or is at fault has nothing to resume.
 resumed_settled : (es : List Event) (s : Standing) (o : Outcome Event) → (IsWaiting s → ⊥) → resumed es s o ≡ outcome es s
@@ -61,12 +61,8 @@ module _ (r s : Report) (p : Port) (G : Meaning Event) (q : Port) (H : Meaning E
     fault_met : (e : Event) (c : _) → MetFault r s p G q H took e c → resumed (es ++ took) s.standing (H t closed) ≡ reported (outcome (es ++ (G t closed).items) (G t closed).stands)
     fault_met e c met =
         ap (λ (x : Standing). resumed (es ++ took) x (H t closed)) met.standing
-        ∙ sym (ap (λ (o : Outcome Event). reported (outcome (es ++ o.items) o.stands)) (met.behind t closed)
-        ∙ ap (λ (z : List Event). reported (outcome z (H t closed).stands)) (regroup (H t closed).items)
-        ∙ judged_stop (refusal 1024) ReportName (es ++ took) (accepted_of s (es ++ took) (takes es h)) e c (met.why es h) (H t closed).items (H t closed).stands)
-      where
-        regroup : (xs : List Event) → es ++ ((took ++ (e ∷ [])) ++ xs) ≡ (es ++ took) ++ (e ∷ xs)
-        regroup xs = simp append_assoc
+        ∙ ap (outcome (es ++ took)) (sym met.standing)
+        ∙ sym (whole_met r s p G q H took takes es h e c met t closed)
 
     halted_keeps : Halted r s p G q H took → resumed (es ++ took) s.standing (H t closed) ≡ reported (outcome (es ++ (G t closed).items) (G t closed).stands)
     halted_keeps (inl (below, none)) = none_left below none

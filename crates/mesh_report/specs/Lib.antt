@@ -1,6 +1,5 @@
 -- The report's text.
 pub mod Spelling
-pub mod Entries
 pub mod SpellingExamples
 pub mod Writing
 -- What a report counts.

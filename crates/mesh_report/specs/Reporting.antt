@@ -1,5 +1,5 @@
 -- What a report keeps of the events that it took, and what its calls do.
-use Rattle.std.specs.Prelude.{◌≡◌, ℕ, ◌+◌, ◌<◌, Bool, true, false, cond, ◌⊎◌, List, [], ◌∷◌, ◌++◌, length, take, Some, None, Ok, Err, Result, nat_le}
+use Rattle.std.specs.Prelude.{◌≡◌, ℕ, ◌+◌, ◌<◌, cond, ◌⊎◌, List, [], ◌∷◌, ◌++◌, length, take, Some, None, Ok, Err, Result, nat_le}
 use Rattle.mesh_stream.specs.declared.event.Event.{Event}
 use Rattle.mesh_stream.specs.declared.fault.Cause.{Cause}
 use Rattle.mesh_stream.specs.declared.fault.LayerName.TheVariants.{Report as ReportName}
@@ -133,7 +133,17 @@ module _ (r s : Report) where
     RanOutFrom Ended = StaysPut
     RanOutFrom (Faulty f) = StaysPut
 
-    -- One event is asked for: it is taken, or nothing is.
-    abbrev pub Asked : Bool → Type 0
-    Asked true = (e : Event) × TakesOne e × HandsOver p G e q H
-    Asked false = TakesMore [] × SameKind p q × Halted []
+    -- Nothing is taken, and the run is over.
+    abbrev pub Stops : Type 0
+    Stops = TakesMore [] × SameKind p q × Halted []
+
+-- u is s, but stands so.
+pub record StandsSo (s : Report) (so : Standing) (u : Report) : Type 0 where
+  pub judge : u.judge ≡ s.judge
+  pub totals : u.totals ≡ s.totals
+  pub standing : u.standing ≡ so
+
+-- One event is asked for: it is taken, or the run is over once the report stands as answered.
+abbrev pub Asked : Report → Report → Port → Meaning Event → Port → Meaning Event → Result (Unit {0}) Standing → Type 0
+Asked r s p G q H (Ok _) = (e : Event) × TakesOne r s e × HandsOver p G e q H
+Asked r s p G q H (Err so) = (u : Report) → StandsSo s so u → Stops r u p G q H

@@ -50,6 +50,20 @@ abbrev pub as_lines : List (List ℕ) → List ℕ
 as_lines [] = []
 as_lines (l ∷ ls) = as_line l ++ as_lines ls
 
+-- What each line of the totals says: a word and a number.
+abbrev pub entries_of : Totals → List (List ℕ × ℤ)
+entries_of t =
+    (codes "vertices ", pos t.vertices)
+    ∷ (codes "triangles ", pos t.triangles)
+    ∷ (codes "finalized ", pos t.finalized)
+    ∷ (codes "width ", pos t.width)
+    ∷ (codes "area ", t.area)
+    ∷ []
+
+abbrev pub entry_lines : List (List ℕ × ℤ) → List ℕ
+entry_lines [] = []
+entry_lines ((word, z) ∷ es) = as_line (entry word z) ++ entry_lines es
+
 abbrev pub report_text : Totals → Standing → List ℕ
 report_text t s = as_lines (
     entry (codes "vertices ") (pos t.vertices)

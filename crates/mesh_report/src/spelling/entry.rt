@@ -1,56 +1,48 @@
-ghost use Rattle.std.specs.Prelude.{◌≡◌, ◌≤◌, length};
-ghost use Rattle.mesh_report.specs.Entries.{word_of, number_of};
-ghost use Rattle.mesh_report.specs.Spelling.{entry, as_line};
+ghost use Rattle.std.specs.Prelude.{◌≡◌, ◌≤◌, map, length};
+ghost use Rattle.std.specs.List.{AllByRecursion};
+ghost use Rattle.mesh_report.specs.Spelling.{entry, entries_of, entry_lines, as_line};
 ghost use Rattle.mesh_report.specs.Writing.{Written};
 
 use super::number::{spell_byte, spell_signed, spell_text};
 use crate::totals::Totals;
 
-// A number of the totals, which is spelled behind its word.
-#[derive(Clone, Copy)]
-pub(super) enum Entry {
-    Vertices,
-    Triangles,
-    Finalized,
-    Width,
-    Area,
+// A line of a word and a number: a word of ten bytes, a number of 20 and the line end at the most.
+fn spell_entry(buffer: &mut [u8], word: &[u8], number: i64) -> usize
+    requires word { length word.now ≤ 10 }
+    requires room { 31 ≤ length buffer.old }
+    ensures written { Written (as_line (entry word.now number)) buffer.old result buffer.new }
+    ensures short { result ≤ 31 }
+{
+    let mut at = spell_text(buffer, word);
+    at += spell_signed(&mut buffer[at..], number);
+    at + spell_byte(&mut buffer[at..], b'\n')
 }
 
-impl Entry {
-    fn word(self) -> &'static [u8]
-        ensures word { result.now ≡ word_of self }
-        ensures short { length result.now ≤ 10 }
+impl Totals {
+    // What the lines of the totals say. A count is spelled as the signed number that it is.
+    fn entries(&self) -> [(&'static [u8], i64); 5]
+        ensures said { map (λ e. (e.0.now, e.1)) result ≡ entries_of self.now }
+        ensures short { AllByRecursion (λ e. length e.0.now ≤ 10) result }
     {
-        match self {
-            Entry::Vertices => b"vertices ",
-            Entry::Triangles => b"triangles ",
-            Entry::Finalized => b"finalized ",
-            Entry::Width => b"width ",
-            Entry::Area => b"area ",
-        }
+        [
+            (b"vertices ", i64::from(self.vertices)),
+            (b"triangles ", i64::from(self.triangles)),
+            (b"finalized ", i64::from(self.finalized)),
+            (b"width ", i64::from(self.width)),
+            (b"area ", self.area),
+        ]
     }
 
-    // A count is spelled as the signed number that it is.
-    fn number(self, totals: &Totals) -> i64
-        ensures { result ≡ number_of self totals.now }
+    // The lines of the totals: each gets the rest of the buffer, so that it cannot touch the lines before.
+    pub(super) fn spell_entries(&self, buffer: &mut [u8]) -> usize
+        requires { 155 ≤ length buffer.old }
+        ensures written { Written (entry_lines (entries_of self.now)) buffer.old result buffer.new }
+        ensures short { result ≤ 155 }
     {
-        match self {
-            Entry::Vertices => i64::from(totals.vertices),
-            Entry::Triangles => i64::from(totals.triangles),
-            Entry::Finalized => i64::from(totals.finalized),
-            Entry::Width => i64::from(totals.width),
-            Entry::Area => totals.area,
+        let mut at = 0;
+        for (word, number) in self.entries() {
+            at += spell_entry(&mut buffer[at..], word, number);
         }
-    }
-
-    // The line of the entry: a word of ten bytes, a number of 20 and the line end at the most.
-    pub(super) fn spell(self, totals: &Totals, buffer: &mut [u8]) -> usize
-        requires { 31 ≤ length buffer.old }
-        ensures written { Written (as_line (entry (word_of self) (number_of self totals.now))) buffer.old result buffer.new }
-        ensures short { result ≤ 31 }
-    {
-        let mut at = spell_text(buffer, self.word());
-        at += spell_signed(&mut buffer[at..], self.number(totals));
-        at + spell_byte(&mut buffer[at..], b'\n')
+        at
     }
 }

@@ -33,10 +33,9 @@ fn last_digit(n: u64) -> u8
     b'0' + (n % 10) as u8
 }
 
-// The spelling of the tens, if there are any, then the last digit. That it calls itself on the quotient by ten is a form that the
-// project asks for.
+// The spelling of the tens, if there are any, then the last digit: it calls itself, since the definition of a spelled number does.
 #[tactic(auto, using(crate::proofs::Digits::length_one, crate::proofs::Digits::length_more))]
-fn spell_number(buffer: &mut [u8], n: u64) -> usize
+pub(super) fn spell_number(buffer: &mut [u8], n: u64) -> usize
     requires { length (spelled n) ≤ length buffer.old }
     ensures { Written (spelled n) buffer.old result buffer.new }
 {
@@ -46,16 +45,6 @@ fn spell_number(buffer: &mut [u8], n: u64) -> usize
     }
     let at = spell_number(buffer, front);
     at + spell_byte(&mut buffer[at..], last_digit(n))
-}
-
-// Ten digits at the most.
-#[tactic(auto, using(crate::proofs::Digits::digits_of_count))]
-pub(super) fn spell_u32(buffer: &mut [u8], n: u32) -> usize
-    requires { 10 ≤ length buffer.old }
-    ensures written { Written (spelled n) buffer.old result buffer.new }
-    ensures short { result ≤ 10 }
-{
-    spell_number(buffer, u64::from(n))
 }
 
 // The minus of a negative number, and nothing for any other.

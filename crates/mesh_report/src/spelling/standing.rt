@@ -4,19 +4,19 @@ ghost use Rattle.mesh_stream.specs.Numbers.{layer_word, cause_number};
 ghost use Rattle.mesh_report.specs.Spelling.{next_number, fault_line, last_line};
 ghost use Rattle.mesh_report.specs.Writing.{Written};
 
-use super::number::{spell_byte, spell_text, spell_u32};
+use super::number::{spell_byte, spell_number, spell_text};
 use mesh_stream::fault::{Cause, Fault, LayerName};
 use mesh_stream::stage::Standing;
 
-// A number behind a blank: eleven bytes at the most.
-#[tactic(auto, unfolding(crate::specs::Spelling::next_number))]
+// A number behind a blank: ten digits at the most.
+#[tactic(auto, using(crate::proofs::Digits::digits_of_count), unfolding(crate::specs::Spelling::next_number))]
 fn spell_next(buffer: &mut [u8], n: u32) -> usize
     requires { 11 ≤ length buffer.old }
     ensures written { Written (next_number n) buffer.old result buffer.new }
     ensures short { result ≤ 11 }
 {
     let at = spell_byte(buffer, b' ');
-    at + spell_u32(&mut buffer[at..], n)
+    at + spell_number(&mut buffer[at..], u64::from(n))
 }
 
 // `fault LAYER`, where the word of a layer has eight bytes at the most.
