@@ -9,6 +9,6 @@ use crate::numbers::Numbers;
 pub struct TextReader {
     kept: Kept,
     next: Numbers,
-    // a flag, since a closed reader must still answer feed and close, with a refusal: a type of its own would not have these calls
+    // a flag, since feed and close of a closed reader must answer, at run time, that they are refused
     closed: bool,
 }
