@@ -100,9 +100,9 @@ same_taken s u es j t h = record {
   limit = ap live_limit j ∙ h.limit;
 }
 
-pub met_fault : (r s : Report) (p : Port) (G : Meaning Event) (q : Port) (H : Meaning Event) (e : Event) (c : Cause) (l : ℕ)
-    → l ≡ place_of e → TakesNone r s e c → HandsOver p G e q H → Asked r s p G q H (Err (fault ReportName c l))
-met_fault r s p G q H e c l at none hands u so = (
+pub met_fault : (r s : Report) (p : Port) (G : Meaning Event) (q : Port) (H : Meaning Event) (e : Event) (c : Cause) (l : ℕ) (x : Standing)
+    → x ≡ fault ReportName c l → l ≡ place_of e → TakesNone r s e c → HandsOver p G e q H → Asked r s p G q H (Err x)
+met_fault r s p G q H e c l x is at none hands u so = (
   (λ es h. same_taken s u (es ++ []) so.judge so.totals (none.takes es h)),
   hands.port_kept,
   inr (
@@ -111,7 +111,7 @@ met_fault r s p G q H e c l at none hands u so = (
     record {
       behind = λ t m. hands.first t m;
       why = λ es h. subst (λ (z : List Event). refusal 1024 z e ≡ Some c) (sym (append-nil es)) (none.why es h);
-      standing = so.standing ∙ ap (fault ReportName c) at;
+      standing = so.standing ∙ is ∙ ap (fault ReportName c) at;
     },
   ),
 )

@@ -2,7 +2,7 @@
 // tests are not seen outside their crate, and only tests may stop a program.
 use mesh_reader::reader::TextReader;
 use mesh_stream::event::{Event, Point};
-use mesh_stream::fault::{Cause, Fault, LayerName};
+use mesh_stream::fault::{Cause, LayerName};
 use mesh_stream::stage::{Inlet, Stage, Standing};
 use std::process::Abort;
 use std::test::Fail;
@@ -47,9 +47,5 @@ pub fn finalization(place: u32, vertex: u32) -> Event {
 }
 
 pub fn faulty(cause: Cause, line: u32) -> Standing {
-    Standing::Faulty(Fault {
-        layer: LayerName::Reader,
-        cause,
-        place: line,
-    })
+    Standing::faulty(LayerName::Reader, cause, line)
 }

@@ -1,6 +1,6 @@
 // Records for a list stage, which gives each its position as its place, and how a report on them may stand.
 use mesh_stream::event::{Event, Point};
-use mesh_stream::fault::{Cause, Fault, LayerName};
+use mesh_stream::fault::{Cause, LayerName};
 use mesh_stream::stage::Standing;
 
 pub fn vertex_at(number: u32, x: i32, y: i32, z: i32) -> Event {
@@ -24,9 +24,5 @@ pub fn finalization(vertex: u32) -> Event {
 }
 
 pub fn faulty(cause: Cause, place: u32) -> Standing {
-    Standing::Faulty(Fault {
-        layer: LayerName::Report,
-        cause,
-        place,
-    })
+    Standing::faulty(LayerName::Report, cause, place)
 }

@@ -5,7 +5,7 @@ ghost use Rattle.mesh_stream.specs.Calls.{Nexted, Fed, Closed};
 use super::TextReader;
 use crate::line::{front_line, in_time};
 use mesh_stream::event::Event;
-use mesh_stream::fault::{Fault, LayerName, Refusal};
+use mesh_stream::fault::{LayerName, Refusal};
 use mesh_stream::stage::{Inlet, Stage, Standing};
 
 impl TextReader {
@@ -22,13 +22,11 @@ impl TextReader {
             });
         };
         let place = self.next.line;
-        let content = in_time(place, line.content).map_err(|cause| {
-            Standing::Faulty(Fault {
-                layer: LayerName::Reader,
-                cause,
-                place,
-            })
-        })?;
+        let content = in_time(place, line.content).map_err(|cause| Standing::faulty(
+            LayerName::Reader,
+            cause,
+            place,
+        ))?;
         self.kept.consume(line.length);
         match &content {
             None => self.next.line += 1,

@@ -2,7 +2,7 @@ ghost use Rattle.mesh_report.specs.Reporting.{Asked, RanFrom, RanOutFrom, standi
 
 use crate::report::Report;
 use mesh_stream::event::Event;
-use mesh_stream::fault::{Fault, LayerName};
+use mesh_stream::fault::LayerName;
 use mesh_stream::stage::{Stage, Standing};
 
 impl Report {
@@ -15,11 +15,7 @@ impl Report {
             // with `map_err` in place of this match a report takes a tenth longer
             Ok(event) => match self.take(event) {
                 Ok(()) => Ok(()),
-                Err(cause) => Err(Standing::Faulty(Fault {
-                    layer: LayerName::Report,
-                    cause,
-                    place: event.place(),
-                })),
+                Err(cause) => Err(Standing::faulty(LayerName::Report, cause, event.place())),
             },
             Err(below) => Err(self.judge.stand(LayerName::Report, below)),
         }
