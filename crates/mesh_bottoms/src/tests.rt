@@ -6,6 +6,7 @@ use mesh_stream::stage::{Stage, Standing};
 use std::process::Abort;
 use std::test::Fail;
 
+// The makers of events and the check of a stage are this crate's own: the tests of another are not seen here.
 fn vertex(place: u32, number: u32, x: i32, y: i32) -> Event {
     Event::Vertex {
         place,

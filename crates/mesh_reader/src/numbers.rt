@@ -3,7 +3,7 @@ ghost use Rattle.mesh_reader.specs.Reading.{vertex_after};
 
 use mesh_stream::event::Event;
 
-// The numbers that the next line and the next vertex get.
+// The numbers that the next line and the next vertex get. The definitions of reading take them apart, as the rules do.
 #[derive(Clone, Copy)]
 pub(crate) struct Numbers {
     pub line: u32,

@@ -9,7 +9,8 @@ pub struct Point {
     pub z: i32,
 }
 
-// One event of a mesh stream. Its place says where it came from: a line, a record or a position, counted from 1.
+// One event of a mesh stream. Its place says where it came from: a line, a record or a position, counted from 1. Each variant has
+// it, so that an event is one literal, and a match takes what it needs.
 #[derive(Clone, Copy, PartialEq, Eq, Debug)]
 pub enum Event {
     // introduces a vertex

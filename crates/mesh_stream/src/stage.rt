@@ -33,7 +33,7 @@ pub trait Stage {
     // For every text that may still come and each mark: all items that it will hand over, and how it then stands.
     ghost meaning: { Self → Meaning Self.Item };
 
-    // Whether it takes no text, or is open with a room, or is closed.
+    // Whether it takes no text, or is open with a room, or is closed: a member of its own, which the promise of `next` names.
     ghost port: { Self → Port };
 
     // What every stage keeps.

@@ -13,7 +13,8 @@ pub(crate) struct Record<V> {
     pub(crate) value: V,
 }
 
-// How a search ends: at the key, at the first empty slot, where the key may be put, or with every slot full of others.
+// How a search ends, in one of three ways: at the key, at the first empty slot, where the key may be put, or with every slot full
+// of others.
 #[derive(Clone, Copy)]
 pub(crate) enum Probe<const N: usize> {
     Found(SlotNumber<N>),
@@ -22,7 +23,7 @@ pub(crate) enum Probe<const N: usize> {
 }
 
 // Slots round a ring. A key is searched from its home on, slot by slot. An array of its own, since a table's memory is fixed and
-// lies in no heap.
+// lies in no heap. Its facts serve the slots above it, so it is not seen as a list alone.
 #[derive(Drop)]
 pub(crate) struct Ring<V, const N: usize> {
     pub(crate) array: [Option<Record<V>>; N],

@@ -1,4 +1,5 @@
-// Records for a list stage, which gives each its position as its place, and how a report on them may stand.
+// Records for a list stage, which gives each its position as its place, and how a report on them may stand. The makers are this
+// crate's own: the tests of another are not seen here.
 use mesh_stream::event::{Event, Point};
 use mesh_stream::fault::{Cause, LayerName};
 use mesh_stream::stage::Standing;
