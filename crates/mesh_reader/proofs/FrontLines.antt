@@ -15,7 +15,7 @@ use Rattle.mesh_reader.specs.Scanning.{front}
 use Rattle.mesh_reader.proofs.Words.{front_length, unstopped}
 use Rattle.mesh_reader.specs.Keeping.{keeping, mark_at, Front}
 
--- what follows the first piece
+-- what follows the first piece (`slice_split_first` of the library speaks only of one with another behind it)
 first_piece : (bs : List ℕ) → (qs : List (List ℕ)) × (pieces line_end bs ≡ front line_end bs ∷ qs)
 first_piece [] = ([], refl)
 first_piece (b ∷ bs) = by (line_end b) (first_piece bs)
