@@ -1,42 +1,32 @@
 -- The line at the front of a text, of which no more than 128 bytes are looked at.
 use Rattle.std.proofs.Common.{◌≡◌, ℕ, zero, suc, ◌+◌, ◌-◌, ◌<◌, ◌≤◌, min, Bool, true, false, cond, ltb, leb, ◌⊎◌, List, [], ◌∷◌, ◌++◌, length, take, drop, Some, None, Err, sym, refl, ap, ◌∙◌, subst, inl, inr, append_assoc, append-nil, arith, length-append}
+use Rattle.std.specs.List.{All, onto_first}
 use Rattle.std.proofs.lemmas.List.{length-take, take_all, drop_all}
+use Rattle.std.proofs.lemmas.List.Splits.{slice_split_at, slice_split_none, join_with_byte-slice_split}
 use Rattle.std.proofs.lemmas.Bool.{eqb-true, both_ways, leb-true, leb-false, le-leb, lt-leb, cases_lt}
 use Rattle.mesh_stream.specs.declared.event.Event.{Event}
 use Rattle.mesh_stream.specs.declared.fault.Cause.TheVariants.{LineTooLong, TooManyLines}
 use Rattle.mesh_stream.specs.declared.stage.Standing.TheVariants.{Waiting, Ended}
 use Rattle.mesh_stream.specs.Meaning.{Mark, unclosed, closed, Outcome, outcome}
-use Rattle.mesh_reader.specs.Text.{onto_first, split, pieces, some_bytes, words, line_end, last_counts, lines_in}
+use Rattle.mesh_reader.specs.Text.{pieces, some_bytes, words, line_end, last_counts, lines_in}
 use Rattle.mesh_reader.specs.Reading.{LineContent, by_words, in_time, line_content, fault, and_on, read_lines, at_end, reading_from, rejoined, after_line, unread_pieces, unread}
 use Rattle.mesh_reader.specs.ReadingLaw.{SomePieces, some_pieces, line_before, first_piece_long, long_cause, long_wrong}
 use Rattle.mesh_reader.specs.Scanning.{front}
-use Rattle.mesh_reader.proofs.Words.{front_length}
+use Rattle.mesh_reader.proofs.Words.{front_length, unstopped}
 use Rattle.mesh_reader.specs.Keeping.{keeping, mark_at, Front}
 
--- what follows the first piece
+-- what follows the first piece (`slice_split_first` of the library speaks only of one with another behind it)
 first_piece : (bs : List ℕ) → (qs : List (List ℕ)) × (pieces line_end bs ≡ front line_end bs ∷ qs)
 first_piece [] = ([], refl)
 first_piece (b ∷ bs) = by (line_end b) (first_piece bs)
   where
-    by : (t : Bool) → (qs : List (List ℕ)) × (pieces line_end bs ≡ front line_end bs ∷ qs) → (qs : List (List ℕ)) × (split t b (pieces line_end bs) ≡ cond t [] (b ∷ front line_end bs) ∷ qs)
+    by : (t : Bool) → (qs : List (List ℕ)) × (pieces line_end bs ≡ front line_end bs ∷ qs) → (qs : List (List ℕ)) × (cond t ([] ∷ pieces line_end bs) (onto_first b (pieces line_end bs)) ≡ cond t [] (b ∷ front line_end bs) ∷ qs)
     by true (qs, e) = (pieces line_end bs, refl)
     by false (qs, e) = (qs, ap (onto_first b) e)
 
--- A complete line comes off the front.
-line_off : (bs t : List ℕ) → pieces line_end (front line_end bs ++ (10 ∷ t)) ≡ front line_end bs ∷ pieces line_end t
-line_off [] t = refl
-line_off (b ∷ bs) t = by (line_end b) refl (line_off bs t)
-  where
-    by : (e : Bool) → line_end b ≡ e → pieces line_end (front line_end bs ++ (10 ∷ t)) ≡ front line_end bs ∷ pieces line_end t
-        → pieces line_end (cond (line_end b) [] (b ∷ front line_end bs) ++ (10 ∷ t)) ≡ cond (line_end b) [] (b ∷ front line_end bs) ∷ pieces line_end t
-    by true e later = ap (λ s. pieces line_end (cond s [] (b ∷ front line_end bs) ++ (10 ∷ t))) e ∙ sym (ap (λ s. cond s [] (b ∷ front line_end bs) ∷ pieces line_end t) e)
-    by false e later =
-        ap (λ s. pieces line_end (cond s [] (b ∷ front line_end bs) ++ (10 ∷ t))) e ∙ ap (λ s. split s b (pieces line_end (front line_end bs ++ (10 ∷ t)))) e
-        ∙ ap (onto_first b) later ∙ sym (ap (λ s. cond s [] (b ∷ front line_end bs) ∷ pieces line_end t) e)
-
 reading_line : (p n : ℕ) (bs t : List ℕ) (m : Mark) → reading_from p n (front line_end bs ++ (10 ∷ t)) m ≡ and_on p n (line_content p n (front line_end bs)) (λ next. reading_from (suc p) next t m)
 reading_line p n bs t m =
-    ap (λ (ps : List (List ℕ)). read_lines p n (lines_in m ps) (at_end m)) (line_off bs t)
+    ap (λ (ps : List (List ℕ)). read_lines p n (lines_in m ps) (at_end m)) (slice_split_at line_end (front line_end bs) 10 t (unstopped line_end bs) refl)
     ∙ ap (λ (ls : List (List ℕ)). read_lines p n ls (at_end m)) (line_before m (front line_end bs) (pieces line_end t) (some_pieces line_end t))
 
 -- A line end among the first n bytes: the line, its end, and the rest.
@@ -79,40 +69,12 @@ whole_front (b ∷ bs) h = by (line_end b) refl (whole_front bs)
         let q : length (front line_end (b ∷ bs)) ≡ suc (length (front line_end bs)) = ap (λ s. length (cond s [] (b ∷ front line_end bs))) e in
         ap (λ s. cond s [] (b ∷ front line_end bs)) e ∙ ap (λ (xs : List ℕ). b ∷ xs) (later (omega arith))
 
-one_piece : (bs : List ℕ) → length bs ≤ length (front line_end bs) → pieces line_end bs ≡ bs ∷ []
-one_piece [] h = refl
-one_piece (b ∷ bs) h = by (line_end b) refl (one_piece bs)
-  where
-    by : (s : Bool) → line_end b ≡ s → (length bs ≤ length (front line_end bs) → pieces line_end bs ≡ bs ∷ []) → pieces line_end (b ∷ bs) ≡ (b ∷ bs) ∷ []
-    by true e later = absurd (let z : length (front line_end (b ∷ bs)) ≡ 0 = ap (λ s. length (cond s [] (b ∷ front line_end bs))) e in let y : ⊥ = omega arith in y)
-    by false e later =
-        let q : length (front line_end (b ∷ bs)) ≡ suc (length (front line_end bs)) = ap (λ s. length (cond s [] (b ∷ front line_end bs))) e in
-        ap (λ s. split s b (pieces line_end bs)) e ∙ ap (onto_first b) (later (omega arith))
-
 short_content : (p n : ℕ) (l : List ℕ) → length l < 128 → line_content p n l ≡ in_time p (by_words p n (words l))
 short_content p n l h = ap (λ t. in_time p (cond t (Err LineTooLong) (by_words p n (words l)))) (lt-leb 128 (length l) h)
 
 late_or_long : (p n : ℕ) (t : Bool) (later : ℕ → Outcome Event) → and_on p n (cond t (Err TooManyLines) (Err LineTooLong)) later ≡ outcome [] (fault (long_cause t) p)
 late_or_long p n true later = refl
 late_or_long p n false later = refl
-
--- Pieces put together again are the text.
-rejoined_behind : (p : List ℕ) (ps : List (List ℕ)) → SomePieces ps → rejoined (p ∷ ps) ≡ p ++ (10 ∷ rejoined ps)
-rejoined_behind p [] h = absurd h
-rejoined_behind p (q ∷ ps) h = refl
-
-rejoined_pieces : (bs : List ℕ) → rejoined (pieces line_end bs) ≡ bs
-rejoined_pieces [] = refl
-rejoined_pieces (b ∷ bs) = by (line_end b) refl (pieces line_end bs) (some_pieces line_end bs) (rejoined_pieces bs)
-  where
-    onto : (ps : List (List ℕ)) → SomePieces ps → rejoined (onto_first b ps) ≡ b ∷ rejoined ps
-    onto [] h = absurd h
-    onto (p ∷ []) h = refl
-    onto (p ∷ (q ∷ ps)) h = refl
-
-    by : (t : Bool) → line_end b ≡ t → (ps : List (List ℕ)) → SomePieces ps → rejoined ps ≡ bs → rejoined (split (line_end b) b ps) ≡ b ∷ bs
-    by true e ps h later = ap (λ t. rejoined (split t b ps)) e ∙ rejoined_behind [] ps h ∙ ap (λ (xs : List ℕ). 10 ∷ xs) later ∙ ap (λ (c : ℕ). c ∷ bs) (sym (eqb-true b 10 e))
-    by false e ps h later = ap (λ t. rejoined (split t b ps)) e ∙ onto ps h ∙ ap (λ (xs : List ℕ). b ∷ xs) later
 
 -- What is left unread behind a complete line, and of a line that is too long.
 unread_line : (m : Mark) (p n : ℕ) (l : List ℕ) (ps : List (List ℕ)) → SomePieces ps → unread_pieces m p n (l ∷ ps) ≡ after_line (line_content p n l) (rejoined (l ∷ ps)) (rejoined ps) (unread_pieces m (suc p) n ps)
@@ -151,11 +113,11 @@ module _ (c : Bool) (p n : ℕ) (kept window : List ℕ) (is : window ≡ take 1
       left : (m : Mark) → kept ≡ line ++ (10 ∷ drop (suc (length line)) kept) → unread m p n kept ≡ after_line (in_time p (by_words p n (words line))) kept (drop (length line + 1) kept) (unread m (suc p) n (drop (length line + 1) kept))
       left m e =
           let rest = drop (suc (length line)) kept in
-          let o : pieces line_end kept ≡ line ∷ pieces line_end rest = ap (pieces line_end) e ∙ line_off window rest in
+          let o : pieces line_end kept ≡ line ∷ pieces line_end rest = ap (pieces line_end) e ∙ slice_split_at line_end line 10 rest (unstopped line_end window) refl in
           ap (unread_pieces m p n) o ∙ unread_line m p n line (pieces line_end rest) (some_pieces line_end rest)
           ∙ ap (λ g. after_line g (rejoined (line ∷ pieces line_end rest)) (rejoined (pieces line_end rest)) (unread m (suc p) n rest)) (short_content p n line (omega arith))
-          ∙ ap (λ (all : List ℕ). after_line (in_time p (by_words p n (words line))) all (rejoined (pieces line_end rest)) (unread m (suc p) n rest)) (ap rejoined (sym o) ∙ rejoined_pieces kept)
-          ∙ ap (λ (behind : List ℕ). after_line (in_time p (by_words p n (words line))) kept behind (unread m (suc p) n rest)) (rejoined_pieces rest)
+          ∙ ap (λ (all : List ℕ). after_line (in_time p (by_words p n (words line))) all (rejoined (pieces line_end rest)) (unread m (suc p) n rest)) (ap rejoined (sym o) ∙ join_with_byte-slice_split 10 kept)
+          ∙ ap (λ (behind : List ℕ). after_line (in_time p (by_words p n (words line))) kept behind (unread m (suc p) n rest)) (join_with_byte-slice_split 10 rest)
           ∙ ap (λ (k : ℕ). after_line (in_time p (by_words p n (words line))) kept (drop k kept) (unread m (suc p) n (drop k kept))) plus
 
       to : (t : List ℕ) (m : Mark) → kept ≡ line ++ (10 ∷ drop (suc (length line)) kept) → reading_from p n (kept ++ t) m ≡ and_on p n (in_time p (by_words p n (words line))) (λ next. reading_from (suc p) next (drop (length line + 1) kept ++ t) m)
@@ -184,7 +146,7 @@ module _ (c : Bool) (p n : ℕ) (kept window : List ℕ) (is : window ≡ take 1
           let w = length_window in
           let u = unbroken 128 kept [] (omega arith) (subst (λ (v : List ℕ). length v ≤ length (front line_end v)) is h) in
           let v : 128 ≤ length (front line_end kept) = subst (λ (xs : List ℕ). 128 ≤ length (front line_end xs)) (append-nil kept) u in
-          ap (unread_pieces m p n) f.1 ∙ unread_long m p n (front line_end kept) f.0 (le-leb 128 (length (front line_end kept)) v) ∙ ap rejoined (sym f.1) ∙ rejoined_pieces kept
+          ap (unread_pieces m p n) f.1 ∙ unread_long m p n (front line_end kept) f.0 (le-leb 128 (length (front line_end kept)) v) ∙ ap rejoined (sym f.1) ∙ join_with_byte-slice_split 10 kept
           ∙ sym (late_or_long_keeps (ltb 1000000000 p) kept (drop 128 kept) (unread m (suc p) n (drop 128 kept)))
 
       long : (t : List ℕ) (m : Mark) (later : ℕ → Outcome Event) → reading_from p n (kept ++ t) m ≡ and_on p n (in_time p (Err LineTooLong)) later
@@ -210,13 +172,16 @@ module _ (c : Bool) (p n : ℕ) (kept window : List ℕ) (is : window ≡ take 1
     open_end : length kept ≤ length (front line_end kept)
     open_end = subst (λ (v : List ℕ). length v ≤ length (front line_end v)) all_kept h
 
+    one_piece : pieces line_end kept ≡ kept ∷ []
+    one_piece = slice_split_none line_end kept (subst (All (λ b. line_end b ≡ false)) (whole_front kept open_end) (unstopped line_end kept))
+
     unfinished : (m : Mark) → reading_from p n kept m ≡ read_lines p n (cond (last_counts m kept) (kept ∷ []) []) (at_end m)
-    unfinished m = ap (λ (ps : List (List ℕ)). read_lines p n (lines_in m ps) (at_end m)) (one_piece kept open_end)
+    unfinished m = ap (λ (ps : List (List ℕ)). read_lines p n (lines_in m ps) (at_end m)) one_piece
 
     waits : c ≡ false → Front c p n kept None
     waits e = subst (λ d. Front d p n kept None) (sym e) (record {
       reads = ap (λ (xs : List ℕ). reading_from p n xs unclosed) (append-nil kept) ∙ unfinished unclosed ∙ ap (λ t. read_lines p n (cond t (kept ∷ []) []) Waiting) (lt-leb 128 (length kept) few);
-      leaves = ap (unread_pieces unclosed p n) (one_piece kept open_end);
+      leaves = ap (unread_pieces unclosed p n) one_piece;
       short = few;
     })
 
@@ -239,7 +204,7 @@ module _ (c : Bool) (p n : ℕ) (kept window : List ℕ) (is : window ≡ take 1
           unfinished closed ∙ ap (λ s. read_lines p n (cond s (kept ∷ []) []) Ended) some_kept
           ∙ ap (λ g. and_on p n g (λ next. outcome [] Ended)) content
           ∙ ap (λ (xs : List ℕ). and_on p n (in_time p (by_words p n (words line))) (λ next. reading_from (suc p) next xs closed)) (sym none_left);
-      leaves = ap (unread_pieces closed p n) (one_piece kept open_end) ∙ ap (λ s. cond s (after_line (line_content p n kept) kept [] []) []) some_kept
+      leaves = ap (unread_pieces closed p n) one_piece ∙ ap (λ s. cond s (after_line (line_content p n kept) kept [] []) []) some_kept
           ∙ ap (λ g. after_line g kept [] []) content
           ∙ ap (λ (xs : List ℕ). after_line (in_time p (by_words p n (words line))) kept xs (unread closed (suc p) n xs)) (sym none_left);
     })

@@ -1,10 +1,13 @@
 -- The words of a line, as it is gone through from left to right.
 use Rattle.std.proofs.Common.{◌≡◌, ℕ, suc, ◌+◌, ◌<◌, ◌≤◌, Bool, true, false, cond, ◌||◌, ◌==◌, not, is_some, ◌⊎◌, List, [], ◌∷◌, ◌++◌, length, take, map, filter, Some, None, Option, sym, refl, ap, ◌∙◌, inl, inr, arith, append-nil, append_assoc, length-append}
+use Rattle.std.specs.List.{onto_first, All}
 use Rattle.std.proofs.Math.ListN.{set}
 use Rattle.std.proofs.lemmas.List.{take_all, take_more_set}
+use Rattle.std.proofs.lemmas.List.Elements.{All-nil, All-cons}
+use Rattle.std.proofs.lemmas.List.Splits.{slice_split-cons_yes, slice_split-cons_no}
 use Rattle.std.proofs.lemmas.Bool.{not-false, eqb-true, eq-eqb, ne_eqb, both_ways, or_cases, or_parts}
 use Rattle.mesh_reader.specs.declared.numeral.Numeral.{Numeral}
-use Rattle.mesh_reader.specs.Text.{onto_first, split, pieces, some_bytes, blank, words, line_end}
+use Rattle.mesh_reader.specs.Text.{pieces, some_bytes, blank, words, line_end}
 use Rattle.mesh_reader.specs.Numerals.{numeral}
 use Rattle.mesh_reader.specs.Reading.{exactly}
 use Rattle.mesh_reader.specs.Scanning.{separates, in_word, front, behind, past_blanks, begins, at_word_end, rest_words, rest_numerals, SameLine, NextIf, NextMinus}
@@ -55,6 +58,15 @@ front_behind stops (b ∷ bs) = by (stops b) (front_behind stops bs)
 pub front_length : (stops : ℕ → Bool) (bs : List ℕ) → length bs ≡ length (front stops bs) + length (behind stops bs)
 front_length stops bs = ap length (sym (front_behind stops bs)) ∙ length-append (front stops bs) (behind stops bs)
 
+-- No byte of the front is of the kind at which it stops.
+pub unstopped : (stops : ℕ → Bool) (bs : List ℕ) → All (λ b. stops b ≡ false) (front stops bs)
+unstopped stops [] = All-nil (λ b. stops b ≡ false)
+unstopped stops (b ∷ bs) = by (stops b) refl (unstopped stops bs)
+  where
+    by : (t : Bool) → stops b ≡ t → All (λ c. stops c ≡ false) (front stops bs) → All (λ c. stops c ≡ false) (cond t [] (b ∷ front stops bs))
+    by true e later = All-nil (λ c. stops c ≡ false)
+    by false e later = All-cons (λ c. stops c ≡ false) b (front stops bs) e later
+
 -- What stops at a line end stays within the line.
 behind_line : (stops : ℕ → Bool) → ((b : ℕ) → line_end b ≡ true → stops b ≡ true) → (bs : List ℕ) → SameLine bs (behind stops bs)
 behind_line stops h [] = refl
@@ -81,7 +93,7 @@ same_blanks = behind_line (λ b. not (blank b)) (λ b e. ap not (end_not_blank b
 
 -- One blank on.
 words_blank : (b : ℕ) (bs : List ℕ) → blank b ≡ true → words (b ∷ bs) ≡ words bs
-words_blank b bs e = ap (λ t. filter some_bytes (split t b (pieces blank bs))) e
+words_blank b bs e = ap (filter some_bytes) (slice_split-cons_yes blank b bs e)
 
 line_blank : (b : ℕ) (bs : List ℕ) → blank b ≡ true → rest_words (b ∷ bs) ≡ rest_words bs
 line_blank b bs e = ap (λ t. words (cond t [] (b ∷ front line_end bs))) (blank_not_end b e) ∙ words_blank b (front line_end bs) e
@@ -106,14 +118,14 @@ pieces_word (b ∷ bs) = by (blank b) (line_end b) refl refl (pieces_word bs)
     by : (s e : Bool) → blank b ≡ s → line_end b ≡ e → pieces blank (front line_end bs) ≡ front separates bs ∷ later_pieces (behind separates bs)
         → pieces blank (cond (line_end b) [] (b ∷ front line_end bs)) ≡ cond (blank b || line_end b) [] (b ∷ front separates bs) ∷ later_pieces (cond (blank b || line_end b) (b ∷ bs) (behind separates bs))
     by true e s h later =
-        ap (λ t. pieces blank (cond t [] (b ∷ front line_end bs))) (blank_not_end b s) ∙ ap (λ t. split t b (pieces blank (front line_end bs))) s
+        ap (λ t. pieces blank (cond t [] (b ∷ front line_end bs))) (blank_not_end b s) ∙ slice_split-cons_yes blank b (front line_end bs) s
         ∙ sym (ap (λ t. cond (t || line_end b) [] (b ∷ front separates bs) ∷ later_pieces (cond (t || line_end b) (b ∷ bs) (behind separates bs))) s ∙ ap (λ t. [] ∷ cond t (pieces blank (front line_end bs)) []) s)
     by false true s h later =
         ap (λ t. pieces blank (cond t [] (b ∷ front line_end bs))) h
         ∙ sym (ap (λ t. cond (t || line_end b) [] (b ∷ front separates bs) ∷ later_pieces (cond (t || line_end b) (b ∷ bs) (behind separates bs))) s
         ∙ ap (λ t. cond t [] (b ∷ front separates bs) ∷ later_pieces (cond t (b ∷ bs) (behind separates bs))) h ∙ ap (λ t. [] ∷ cond t (pieces blank (front line_end bs)) []) s)
     by false false s h later =
-        ap (λ t. pieces blank (cond t [] (b ∷ front line_end bs))) h ∙ ap (λ t. split t b (pieces blank (front line_end bs))) s ∙ ap (onto_first b) later
+        ap (λ t. pieces blank (cond t [] (b ∷ front line_end bs))) h ∙ slice_split-cons_no blank b (front line_end bs) s ∙ ap (onto_first b) later
         ∙ sym (ap (λ t. cond (t || line_end b) [] (b ∷ front separates bs) ∷ later_pieces (cond (t || line_end b) (b ∷ bs) (behind separates bs))) s
         ∙ ap (λ t. cond t [] (b ∷ front separates bs) ∷ later_pieces (cond t (b ∷ bs) (behind separates bs))) h)
 

@@ -1,5 +1,6 @@
 -- Reading a mesh text: which events it gives, and how it stands then.
-use Rattle.std.specs.Prelude.{ℕ, suc, Bool, true, false, cond, List, [], ◌∷◌, ◌++◌, map, length, ℤ, Some, None, Ok, Err, Option, Result, ◌==◌, nat_le, nat_lt}
+use Rattle.std.specs.Prelude.{ℕ, suc, Bool, true, false, cond, List, [], ◌∷◌, map, length, ℤ, Some, None, Ok, Err, Option, Result, ◌==◌, nat_le, nat_lt}
+use Rattle.std.specs.List.{join_with_byte}
 use Rattle.mesh_stream.specs.declared.event.Event.{Event}
 use Rattle.mesh_stream.specs.declared.event.Event.TheVariants.{Vertex, Triangle, Finalization}
 use Rattle.mesh_stream.specs.declared.fault.Cause.{Cause}
@@ -117,9 +118,7 @@ reading = reading_from 1 1
 -- What one next leaves unread of the bytes kept: it reads and drops complete lines, through the first with an event; a faulty
 -- line and all behind it are kept, and so is an incomplete line at the end.
 abbrev pub rejoined : List (List ℕ) → List ℕ
-rejoined [] = []
-rejoined (p ∷ []) = p
-rejoined (p ∷ (q ∷ ps)) = p ++ (10 ∷ rejoined (q ∷ ps))
+rejoined = join_with_byte 10
 
 abbrev pub after_line : LineContent → List ℕ → List ℕ → List ℕ → List ℕ
 after_line (Ok None) all behind later = later

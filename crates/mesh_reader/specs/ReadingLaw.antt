@@ -1,5 +1,6 @@
 -- What holds of every text: one that goes on gives more; once a line is at fault nothing changes it; closed, it is not waited for.
 use Rattle.std.specs.Prelude.{◌≡◌, ℕ, suc, Bool, true, false, cond, List, [], ◌∷◌, ◌++◌, length, Some, None, Ok, Err, nat_le, nat_lt, refl}
+use Rattle.std.specs.List.{onto_first}
 use Rattle.std.proofs.Common.{sym, ap, subst, ◌∙◌, arith, length-append}
 use Rattle.std.proofs.lemmas.Bool.{both_ways, leb-true, le-leb}
 use Rattle.mesh_stream.specs.declared.event.Event.{Event}
@@ -8,7 +9,7 @@ use Rattle.mesh_stream.specs.declared.fault.Cause.TheVariants.{LineTooLong, TooM
 use Rattle.mesh_stream.specs.declared.stage.Standing.{Standing}
 use Rattle.mesh_stream.specs.declared.stage.Standing.TheVariants.{Waiting, Ended}
 use Rattle.mesh_stream.specs.Meaning.{Mark, unclosed, closed, Outcome, outcome, prepend, Begins, IsWaiting}
-use Rattle.mesh_reader.specs.Text.{split, pieces, words, line_end, last_counts, lines_in, lines}
+use Rattle.mesh_reader.specs.Text.{pieces, words, line_end, last_counts, lines_in, lines}
 use Rattle.mesh_reader.specs.Reading.{LineContent, by_words, line_content, vertex_after, fault, and_on, read_lines, at_end, reading_from}
 
 -- The pieces of a text that is joined of two: the last piece of the one goes on as the first of the other.
@@ -20,7 +21,7 @@ pub some_pieces : (s : ℕ → Bool) (t : List ℕ) → SomePieces (pieces s t)
 some_pieces s [] = tt
 some_pieces s (b ∷ t) = at (s b) (pieces s t)
   where
-    at : (c : Bool) (ps : List (List ℕ)) → SomePieces (split c b ps)
+    at : (c : Bool) (ps : List (List ℕ)) → SomePieces (cond c ([] ∷ ps) (onto_first b ps))
     at true ps = tt
     at false [] = tt
     at false (p ∷ ps) = tt
@@ -37,9 +38,9 @@ pieces-++ s [] u = at (pieces s u) (some_pieces s u)
     at : (qs : List (List ℕ)) → SomePieces qs → qs ≡ joined ([] ∷ []) qs
     at [] h = absurd h
     at (q ∷ qs) h = refl
-pieces-++ s (b ∷ t) u = ap (split (s b) b) (pieces-++ s t u) ∙ at (s b) (pieces s t) (pieces s u) (some_pieces s t)
+pieces-++ s (b ∷ t) u = ap (λ ps. cond (s b) ([] ∷ ps) (onto_first b ps)) (pieces-++ s t u) ∙ at (s b) (pieces s t) (pieces s u) (some_pieces s t)
   where
-    at : (c : Bool) (ps qs : List (List ℕ)) → SomePieces ps → split c b (joined ps qs) ≡ joined (split c b ps) qs
+    at : (c : Bool) (ps qs : List (List ℕ)) → SomePieces ps → cond c ([] ∷ joined ps qs) (onto_first b (joined ps qs)) ≡ joined (cond c ([] ∷ ps) (onto_first b ps)) qs
     at c [] qs h = absurd h
     at true (p ∷ ps) qs h = refl
     at false (p ∷ []) [] h = refl

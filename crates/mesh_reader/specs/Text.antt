@@ -1,19 +1,11 @@
 -- A text, its lines, and the words of a line.
 use Rattle.std.specs.Prelude.{ℕ, Bool, true, false, cond, ◌||◌, List, [], ◌∷◌, length, filter, ◌==◌, nat_le}
+use Rattle.std.specs.List.{slice_split}
 use Rattle.mesh_stream.specs.Meaning.{Mark, unclosed, closed}
 
 -- The pieces of a text between the bytes that separate them: one more than there are such bytes.
-abbrev pub onto_first : ℕ → List (List ℕ) → List (List ℕ)
-onto_first b [] = (b ∷ []) ∷ []
-onto_first b (p ∷ ps) = (b ∷ p) ∷ ps
-
-abbrev pub split : Bool → ℕ → List (List ℕ) → List (List ℕ)
-split true b ps = [] ∷ ps
-split false b ps = onto_first b ps
-
 abbrev pub pieces : (ℕ → Bool) → List ℕ → List (List ℕ)
-pieces separates [] = [] ∷ []
-pieces separates (b ∷ bs) = split (separates b) b (pieces separates bs)
+pieces = slice_split
 
 abbrev pub some_bytes : List ℕ → Bool
 some_bytes [] = false
