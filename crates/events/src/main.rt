@@ -1,18 +1,15 @@
 // Reads a mesh text from standard input and prints each event as it comes, and last how the text stood.
 #![tactic(auto)]
 
-ghost use Rattle.std.specs.Prelude.{◌≡◌, [], IfOk};
+ghost use Rattle.std.specs.Prelude.{◌≡◌, ◌≤◌, [], length, IfOk};
 ghost use Rattle.mesh_stream.specs.Meaning.{unclosed, outcome};
 
 use anyhow::anyhow;
 use mesh_reader::reader::TextReader;
 use mesh_stream::event::Event;
 use mesh_stream::stage::{Inlet, Stage, Standing};
-use std::io::{BufRead, BufReader, BufWriter, Write};
+use std::io::{BufWriter, Read, Write};
 use std::{env, io};
-
-// How much of the text is read at a time.
-const BUFFER: usize = 4096;
 
 // Hands the events that the stage has now to the listing, and answers how the stage stands then: the loop over `next`, short enough
 // to stand in each program.
@@ -57,26 +54,35 @@ impl<W: Write> Listing<W> {
     }
 }
 
-// Feeds the reader from the input, as much as it takes each time, until the text ends or is at fault.
-fn list_text<R: BufRead, W: Write>(
+// Reads into the front of the piece, at most so many bytes: to lend the reader a buffer of the input's own takes a twelfth longer.
+fn read_piece<R: Read>(input: &mut R, piece: &mut [u8], most: usize) -> io::Result<usize>
+    ensures { IfOk result (λ n. (n ≤ length piece.old) × (n ≤ most)) }
+{
+    let most = most.min(piece.len());
+    input.read(&mut piece[0..most])
+}
+
+// Feeds the reader from the input, never more than it has room for, until the text ends or is at fault.
+fn list_text<R: Read, W: Write>(
     input: &mut R,
     listing: &mut Listing<W>,
 ) -> anyhow::Result<Standing> {
     let mut reader = TextReader::new();
+    let mut piece = [0; 4096];
     for _ in 0..u64::MAX {
-        let piece = input.fill_buf()?;
-        if piece.is_empty() {
+        let length = read_piece(input, &mut piece, reader.room())?;
+        if length == 0 {
             break;
         }
-        let taken = reader.feed(piece)?;
-        input.consume(taken);
+        reader.feed(&piece[0..length])?;
         let standing = list_events(&mut reader, listing)?;
         if standing != Standing::Waiting {
             return Ok(standing);
         }
     }
     reader.close()?;
-    Ok(list_events(&mut reader, listing)?)
+    let standing = list_events(&mut reader, listing)?;
+    Ok(standing)
 }
 
 fn run(rt: &HostRuntime) -> anyhow::Result<()> {
@@ -91,8 +97,7 @@ fn run(rt: &HostRuntime) -> anyhow::Result<()> {
         out: BufWriter::new(rt.alloc(), rt.stdout())?,
         count,
     };
-    let mut input = BufReader::with_capacity(rt.alloc(), BUFFER, rt.stdin())?;
-    let standing = list_text(&mut input, &mut listing)?;
+    let standing = list_text(&mut rt.stdin(), &mut listing)?;
     listing.end(standing)?;
     Ok(())
 }
