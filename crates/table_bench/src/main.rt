@@ -116,6 +116,8 @@ fn print_time(rt: &HostRuntime, tenth: &str, time: Duration, rounds: u32) -> any
 
 fn measure(rt: &HostRuntime, window: &mut Window, rounds: u32) -> anyhow::Result<()> {
     let tenth = rounds / 10;
+    // in another table, so that the machine is as warm in the first tenth as in the last
+    Window::new()?.run(tenth)?;
     let first = timed(rt, window, tenth)?;
     window.run(rounds - 2 * tenth)?;
     let last = timed(rt, window, tenth)?;
