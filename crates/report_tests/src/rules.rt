@@ -56,9 +56,10 @@ fn triangles_and_finalizations(rt: HostRuntime) -> Result<(), Fail> {
         &[vertex(1), vertex(2), triangle(1, 2, 0)],
     ];
     check_all_stand(&rt, &corners_not_live, faulty(Cause::CornerNotLive, 3))?;
-    let not_live: [&[Event]; 2] = [
+    let not_live: [&[Event]; 3] = [
         &[vertex(1), finalization(1), finalization(1)],
         &[vertex(1), vertex(2), finalization(3)],
+        &[vertex(1), vertex(2), finalization(0)],
     ];
     check_all_stand(&rt, &not_live, faulty(Cause::NotLive, 3))
 }

@@ -130,3 +130,34 @@ fn a_negative_area(rt: HostRuntime) {
     };
     check_report(&rt, &report, totals, Standing::Ended);
 }
+
+// A triangle with corners as far apart as they may be, half of a square of 200,000 by 200,000, adds the area.
+fn check_half_of_all(rt: &impl Abort, a: u32, b: u32, c: u32, area: i64) {
+    let records = [
+        vertex_at(1, -100_000, -100_000, 100_000),
+        vertex_at(2, 100_000, -100_000, -100_000),
+        vertex_at(3, 100_000, 100_000, 0),
+        triangle(a, b, c),
+        finalization(1),
+        finalization(2),
+        finalization(3),
+    ];
+    let mut report = Report::new();
+    report.run_out(&mut ListStage::new(&records));
+    let totals = Totals {
+        vertices: 3,
+        triangles: 1,
+        finalized: 3,
+        width: 3,
+        area,
+    };
+    check_report(rt, &report, totals, Standing::Ended);
+}
+
+#[test]
+fn the_largest_triangles(rt: HostRuntime) {
+    check_half_of_all(&rt, 1, 2, 3, 40_000_000_000);
+    check_half_of_all(&rt, 2, 3, 1, 40_000_000_000);
+    check_half_of_all(&rt, 1, 3, 2, -40_000_000_000);
+    check_half_of_all(&rt, 3, 2, 1, -40_000_000_000);
+}

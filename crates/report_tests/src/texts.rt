@@ -14,7 +14,7 @@ struct Case {
     report: &'static str,
 }
 
-const CASES: [Case; 4] = [
+const CASES: [Case; 5] = [
     Case {
         text: b"# tile\nv 0 0 0\nv 10 0 0\nv 10 10 0\nv 5 5 5\nf 1 2 3\nf 1 1 2\nx 1\nx 2\nx 3\nx 4\n",
         report: "vertices 4\ntriangles 2\nfinalized 4\nwidth 4\narea 100\nend ok\n",
@@ -26,6 +26,10 @@ const CASES: [Case; 4] = [
     Case {
         text: b"v 0 0 0\nx 1\nf 1 1 1\n",
         report: "vertices 1\ntriangles 0\nfinalized 1\nwidth 1\narea 0\nfault report 10 3\n",
+    },
+    Case {
+        text: b"v -100000 -100000 1\nv 100000 -100000 1\nv 0 100000 1\nf 1 3 2\nx 1\nx 2\nx 3",
+        report: "vertices 3\ntriangles 1\nfinalized 3\nwidth 3\narea -40000000000\nend ok\n",
     },
     Case {
         text: b"v 1 2 3",
@@ -85,10 +89,14 @@ fn byte_by_byte(rt: HostRuntime) -> Result<(), Fail> {
     Ok(())
 }
 
-// The text is at fault, and what follows, more than the reader has room for, changes nothing: lines that would each be counted.
+// The text is at fault, and what follows, more than the reader has room for, changes nothing: lines that would each be counted,
+// in small pieces, and in one that is longer than any room.
 fn check_at_fault(rt: &impl Abort, text: &[u8], expected: &str) -> Result<(), Fail> {
     let lines = [*b"v 1 1 1\n"; 125];
     let pieces = once(text).chain(repeat_n(lines.as_flattened(), 9));
+    check_pieces(rt, pieces, expected)?;
+    let many = [*b"v 1 1 1\n"; 1250];
+    let pieces = once(text).chain(once(many.as_flattened()));
     check_pieces(rt, pieces, expected)
 }
 
@@ -106,14 +114,15 @@ fn much_behind_a_fault(rt: HostRuntime) -> Result<(), Fail> {
     )
 }
 
-// The last vertex is one too many, although one of the 1,024 before was finalized.
+// The last vertex is one too many, although one of the 1,024 before was finalized. Those come line by line, and in one piece that
+// is longer than the reader's room.
 #[test]
 fn one_live_vertex_too_many(rt: HostRuntime) -> Result<(), Fail> {
-    let first: &[u8] = b"v 0 0 0\n";
+    let first = [*b"v 0 0 0\n"; 1024];
     let last: &[u8] = b"x 500\nv 0 0 0\nv 0 0 0\n";
-    check_pieces(
-        &rt,
-        repeat_n(first, 1024).chain(once(last)),
-        "vertices 1025\ntriangles 0\nfinalized 1\nwidth 1024\narea 0\nfault report 9 1027\n",
-    )
+    let expected =
+        "vertices 1025\ntriangles 0\nfinalized 1\nwidth 1024\narea 0\nfault report 9 1027\n";
+    let lines = first.as_flattened();
+    check_pieces(&rt, lines.chunks(8).chain(once(last)), expected)?;
+    check_pieces(&rt, once(lines).chain(once(last)), expected)
 }

@@ -45,7 +45,7 @@ fn remove_in_order(rt: &impl Abort, table: &mut Table<u32, 8>, numbers: &[u32]) 
 
 #[test]
 fn keys_of_one_home(rt: HostRuntime) -> Result<(), Fail> {
-    assert_eq!(rt; [home(8), home(16), home(21)], [7; 3]);
+    assert_eq!(rt; [home(8), home(16), home(21), home(29)], [7; 4]);
     let mut table = table_of_8(8)?;
     insert_all(&rt, &mut table, &[8, 16, 21]);
     check_found(&rt, &table, &[8, 16, 21]);
@@ -88,6 +88,7 @@ fn a_full_table(rt: HostRuntime) -> Result<(), Fail> {
 #[test]
 fn the_limit_and_one_more(rt: HostRuntime) -> Result<(), Fail> {
     let mut table = table_of_8(2)?;
+    assert_eq!(rt; [table.limit(), table.len()], [2, 0]);
     insert_all(&rt, &mut table, &[1, 2]);
     assert_eq!(rt; table.insert(Key::vertex(3), 3), Err(InsertError::AtLimit));
     assert_eq!(rt;
@@ -97,7 +98,17 @@ fn the_limit_and_one_more(rt: HostRuntime) -> Result<(), Fail> {
     check_found(&rt, &table, &[1, 2]);
     assert_eq!(rt; table.remove(Key::vertex(1)), Some(1));
     insert_all(&rt, &mut table, &[3]);
-    assert_eq!(rt; table.len(), 2);
+    assert_eq!(rt; [table.limit(), table.len()], [2, 2]);
+    Ok(())
+}
+
+#[test]
+fn a_limit_of_0(rt: HostRuntime) -> Result<(), Fail> {
+    let mut table = table_of_8(0)?;
+    assert_eq!(rt; table.insert(Key::vertex(1), 1), Err(InsertError::AtLimit));
+    assert_eq!(rt; table.find(Key::vertex(1)), None);
+    assert_eq!(rt; table.remove(Key::vertex(1)), None);
+    assert_eq!(rt; [table.limit(), table.len()], [0, 0]);
     Ok(())
 }
 
@@ -126,6 +137,20 @@ fn edges(rt: HostRuntime) -> Result<(), Fail> {
         Err(InsertError::KeyPresent)
     );
     check_found(&rt, &table, &[2, 7]);
+    Ok(())
+}
+
+// The search for the edge goes past its lower end, whose key has the same first number.
+#[test]
+fn an_edge_behind_its_end(rt: HostRuntime) -> Result<(), Fail> {
+    assert_eq!(rt; Key::edge(2, 8).spread() >> 29, home(2));
+    let mut table = table_of_8(8)?;
+    insert_all(&rt, &mut table, &[2]);
+    assert_eq!(rt; table.find(Key::edge(2, 8)), None);
+    assert_eq!(rt; table.insert(Key::edge(2, 8), 28), Ok(()));
+    assert_eq!(rt; table.find(Key::edge(2, 8)), Some(28));
+    assert_eq!(rt; table.remove(Key::vertex(2)), Some(2));
+    assert_eq!(rt; table.find(Key::edge(2, 8)), Some(28));
     Ok(())
 }
 
