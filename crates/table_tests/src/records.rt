@@ -35,11 +35,13 @@ fn check_found(rt: &impl Abort, table: &Table<u32, 8>, numbers: &[u32]) {
     }
 }
 
-// After each removal the others are still there. By places, since a loop over what is left needs a measure of its own.
+// After each removal the record is gone, and the others are still there. By places, since a loop over what is left needs a
+// measure of its own.
 fn remove_in_order(rt: &impl Abort, table: &mut Table<u32, 8>, numbers: &[u32]) {
     for (i, number) in numbers.iter().enumerate() {
         check_found(rt, table, &numbers[i..]);
         assert_eq!(rt; table.remove(Key::vertex(*number)), Some(*number), "{}", i);
+        assert_eq!(rt; table.find(Key::vertex(*number)), None, "{}", i);
     }
 }
 
@@ -70,6 +72,10 @@ fn removal_of_a_neighbour(rt: HostRuntime) -> Result<(), Fail> {
     assert_eq!(rt; table.remove(Key::vertex(16)), Some(16));
     check_found(&rt, &table, &[5, 21]);
     assert_eq!(rt; table.len(), 2);
+    // moved twice, it stands once
+    assert_eq!(rt; table.remove(Key::vertex(21)), Some(21));
+    assert_eq!(rt; table.remove(Key::vertex(21)), None);
+    check_found(&rt, &table, &[5]);
     Ok(())
 }
 
@@ -120,6 +126,14 @@ fn arrays_that_cannot_serve(rt: HostRuntime) {
 }
 
 #[test]
+fn spreads(rt: HostRuntime) {
+    assert_eq!(rt; Key::vertex(1).spread(), 2_654_435_769);
+    assert_eq!(rt; Key::vertex(2).spread(), 1_013_904_242);
+    assert_eq!(rt; Key::edge(2, 1).spread(), 3_668_340_011);
+    assert_eq!(rt; Key::edge(1, 3).spread(), 2_027_808_484);
+}
+
+#[test]
 fn edges(rt: HostRuntime) -> Result<(), Fail> {
     assert_eq!(rt;
         Key::edge(7, 2),
@@ -163,5 +177,7 @@ fn the_lowest_vertex(rt: HostRuntime) -> Result<(), Fail> {
     assert_eq!(rt; table.lowest_vertex(4), None);
     assert_eq!(rt; table.remove(Key::vertex(5)), Some(5));
     assert_eq!(rt; table.lowest_vertex(8), Some(8));
+    insert_all(&rt, &mut table, &[0]);
+    assert_eq!(rt; table.lowest_vertex(0), Some(0));
     Ok(())
 }
