@@ -71,9 +71,9 @@ module _ (r s : Report) (p : Port) (G : Meaning Event) (q : Port) (H : Meaning E
   put_keeps : StaysPut r s p G q H → (t : List ℕ) (o : Outcome Event) → WillReport G r t o → WillReport H s t o
   put_keeps put t o will = record {
     so_far = will.so_far;
-    taken = subst (Taken s) (append-nil will.so_far) (put.takes will.so_far will.taken);
+    taken = subst (λ (x : Report). Taken x will.so_far) (sym put.report) will.taken;
     then_on =
-        will.then_on ∙ ap (λ (x : Standing). resumed will.so_far x (G t closed)) (sym put.standing)
+        will.then_on ∙ ap (λ (x : Report). resumed will.so_far x.standing (G t closed)) (sym put.report)
         ∙ ap (resumed will.so_far s.standing) (sym (put.same t closed));
   }
 
@@ -102,8 +102,8 @@ module _ (r s : Report) (p : Port) (G : Meaning Event) (q : Port) (H : Meaning E
           ends : Halted r s p G q H took → Roomy q
           ends (inl (below, none)) = none.roomy (subst IsWaiting (sym w) tt)
           ends (inr (x, c, met)) = absurd (waits _ met.standing (λ h. h))
-      at Ended e put = absurd (waits Ended (put.standing ∙ e) (λ h. h))
-      at (Faulty f) e put = absurd (waits (Faulty f) (put.standing ∙ e) (λ h. h))
+      at Ended e put = absurd (waits Ended (subst (λ (x : Report). x.standing ≡ Ended) (sym put.report) e) (λ h. h))
+      at (Faulty f) e put = absurd (waits (Faulty f) (subst (λ (x : Report). x.standing ≡ Faulty f) (sym put.report) e) (λ h. h))
 
 -- Feeding moves bytes over.
 module _ (r : Report) (q : Port) (H : Meaning Event) (q' : Port) (K : Meaning Event) (rest : List ℕ) where
@@ -168,7 +168,7 @@ module _ (r s : Report) (p : Port) (G : Meaning Event) (q : Port) (H : Meaning E
 
   put_finishes : StaysPut r s q H v K → (IsWaiting r.standing → ⊥) → (o : Outcome Event) → WillReport G r [] o → Finished s o
   put_finishes put n o will =
-      finishes will.so_far r.standing o (subst (Taken s) (append-nil will.so_far) (put.takes will.so_far will.taken)) put.standing
+      finishes will.so_far r.standing o (subst (λ (x : Report). Taken x will.so_far) (sym put.report) will.taken) (ap (λ (x : Report). x.standing) put.report)
       (will.then_on ∙ resumed_settled will.so_far r.standing (G [] closed) n)
 
   pub will_finish : (a : Result (Unit {0}) Refusal) → Closed p G a q H → RanOutFrom r s q H v K r.standing → (o : Outcome Event) → WillReport G r [] o → Finished s o

@@ -115,10 +115,9 @@ module _ (r s : Report) where
       pub ends : Halted took
       pub whole : (es : List Event) → Taken r es → reported (outcome (es ++ (G [] unclosed).items) (G [] unclosed).stands) ≡ outcome (es ++ took) s.standing
 
-    -- After an end or a fault nothing is asked.
+    -- After an end or a fault nothing is asked, and the report and the stage are as they were.
     pub record StaysPut : Type 0 where
-      pub takes : TakesMore []
-      pub standing : s.standing ≡ r.standing
+      pub report : s ≡ r
       pub same : Same G H
       pub port_same : q ≡ p
 
