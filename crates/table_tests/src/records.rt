@@ -56,6 +56,10 @@ fn keys_of_one_home(rt: HostRuntime) -> Result<(), Fail> {
     assert!(rt; !table.change(Key::vertex(29), 4));
     assert_eq!(rt; table.find(Key::vertex(16)), Some(4));
     check_found(&rt, &table, &[8, 21]);
+    assert!(rt; table.change(Key::vertex(21), 5));
+    assert_eq!(rt; table.find(Key::vertex(21)), Some(5));
+    assert_eq!(rt; table.find(Key::vertex(16)), Some(4));
+    check_found(&rt, &table, &[8]);
     assert_eq!(rt; table.len(), 3);
     Ok(())
 }
