@@ -95,6 +95,22 @@ fn a_full_table(rt: HostRuntime) -> Result<(), Fail> {
     Ok(())
 }
 
+// The last record is as far from its home as a slot can be.
+#[test]
+fn a_full_table_of_one_home(rt: HostRuntime) -> Result<(), Fail> {
+    let numbers: [u32; 8] = [8, 16, 21, 29, 42, 50, 55, 63];
+    for number in numbers {
+        assert_eq!(rt; home(number), 7, "{}", number);
+    }
+    let mut table = table_of_8(8)?;
+    insert_all(&rt, &mut table, &numbers);
+    assert_eq!(rt; home(71), 7);
+    assert_eq!(rt; table.find(Key::vertex(71)), None);
+    remove_in_order(&rt, &mut table, &numbers);
+    assert_eq!(rt; table.len(), 0);
+    Ok(())
+}
+
 #[test]
 fn the_limit_and_one_more(rt: HostRuntime) -> Result<(), Fail> {
     let mut table = table_of_8(2)?;
