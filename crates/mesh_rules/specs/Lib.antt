@@ -1,0 +1,6 @@
+-- The layers' rewritings and piles of them.
+pub mod Degenerate
+pub mod Rewriting
+pub mod Piling
+-- What holds of them.
+pub mod RuleLaws
