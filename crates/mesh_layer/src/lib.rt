@@ -1,0 +1,5 @@
+// Layers: a filter over a stage is a stage again.
+#![tactic(auto)]
+
+pub mod filter;
+pub mod layer;
