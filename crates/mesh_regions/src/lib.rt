@@ -1,0 +1,4 @@
+// Regions of space: sets of points.
+#![tactic(auto)]
+
+pub mod region;
