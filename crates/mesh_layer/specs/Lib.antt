@@ -5,3 +5,5 @@ pub mod LayeringLaw
 -- Filters that are machines.
 pub mod Machine
 pub mod MachineLaw
+-- The law on runs.
+pub mod Law

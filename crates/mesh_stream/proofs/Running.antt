@@ -1,6 +1,6 @@
 -- What is left after a list of calls on any stage that keeps the law.
 use Rattle.std.proofs.Common.{◌≡◌, ℕ, ◌⊎◌, List, [], ◌∷◌, ◌++◌, take, Ok, Err, sym, refl, ap, ◌∙◌, inl, inr, append_assoc, append-nil, arith}
-use Rattle.mesh_stream.specs.Meaning.{Mark, unclosed, closed, Port, textless, open_for, shut, Open, Outcome, outcome, prepend, Fixed, Lawful}
+use Rattle.mesh_stream.specs.Meaning.{Mark, unclosed, closed, Port, textless, open_for, shut, Open, prepend}
 use Rattle.mesh_stream.specs.Calls.{SameKind}
 use Rattle.mesh_stream.specs.Runs.{View, Call, feeds, closes, asks, Step, Run, taken, handed, mark_of, prepends, Left}
 
@@ -13,11 +13,6 @@ kind_shut : (p q : Port) → SameKind p q → p ≡ shut → q ≡ shut
 kind_shut textless q k e = k ∙ e
 kind_shut (open_for n) q (a, k) e = cc
 kind_shut shut q k e = k
-
-was_shut : (p q : Port) → SameKind p q → q ≡ shut → p ≡ shut
-was_shut textless q k e = sym k ∙ e
-was_shut (open_for n) q (a, k) e = cc
-was_shut shut q k e = refl
 
 shut_or_not : (p : Port) → (p ≡ shut) ⊎ ((p ≡ shut → ⊥) × (mark_of p ≡ unclosed))
 shut_or_not textless = inr ((λ e. let z : ◌≡◌ {A = ℕ} 0 1 = cc in omega arith), refl)
@@ -49,27 +44,6 @@ module _ {I : Type 0} where
   left_open (asks (Ok i) ∷ cs) v w (u, s, r) n t m = s.first (taken cs ++ t) m ∙ ap (prepend i) (left_open cs u w r n t m)
   left_open (asks (Err x) ∷ cs) v w (u, s, r) n t m = sym (s.same (taken cs ++ t) m) ∙ left_open cs u w r n t m
 
-  -- A closed stage heeds no text, and that stays so.
-  abbrev FixedIf : View I → Type 0
-  FixedIf v = v.port ≡ shut → Fixed v.means
-
-  rest_of : List I → List I
-  rest_of [] = []
-  rest_of (x ∷ xs) = xs
-
-  behind_item : (i : I) (o n : Outcome I) → prepend i o ≡ prepend i n → o ≡ n
-  unfolding rest_of
-  behind_item i o n e = ap (λ (z : Outcome I). outcome (rest_of z.items) z.stands) e
-
-  step_fixed : (v w : View I) (c : Call I) → Step v c w → FixedIf v → FixedIf w
-  step_fixed v w (feeds piece (Ok k)) s f e t m = absurd (open_not_shut w.port s.stays_open e)
-  step_fixed v w (feeds piece (Err x)) s f e t m = s.same t m ∙ f s.was_shut t m ∙ sym (s.same [] unclosed)
-  step_fixed v w (closes (Ok k)) s f e t m = s.final t m ∙ sym (s.final [] unclosed)
-  step_fixed v w (closes (Err x)) s f e t m = s.same t m ∙ f s.was_shut t m ∙ sym (s.same [] unclosed)
-  step_fixed v w (asks (Ok i)) s f e t m =
-      behind_item i (w.means t m) (w.means [] unclosed) (sym (s.first t m) ∙ f (was_shut v.port w.port s.port_kept e) t m ∙ s.first [] unclosed)
-  step_fixed v w (asks (Err x)) s f e t m = s.same t m ∙ f (was_shut v.port w.port s.port_kept e) t m ∙ sym (s.same [] unclosed)
-
   shut_takes : (cs : List (Call I)) (v w : View I) → Run v cs w → v.port ≡ shut → taken cs ≡ []
   shut_takes [] v w r e = refl
   shut_takes (feeds piece (Ok k) ∷ cs) v w (u, s, r) e = absurd (open_not_shut v.port s.was_open e)
@@ -77,19 +51,20 @@ module _ {I : Type 0} where
   shut_takes (closes x ∷ cs) v w (u, s, r) e = shut_takes cs u w r (step_shut v u (closes x) s e)
   shut_takes (asks x ∷ cs) v w (u, s, r) e = shut_takes cs u w r (step_shut v u (asks x) s e)
 
-  left_shut : (cs : List (Call I)) (v w : View I) → Run v cs w → FixedIf v → w.port ≡ shut → v.means (taken cs) closed ≡ prepends (handed cs) (w.means [] unclosed)
-  left_shut [] v w r f e = f (sym (ap (λ (z : View I). z.port) r) ∙ e) [] closed ∙ ap (λ (z : View I). z.means [] unclosed) (sym r)
-  left_shut (feeds piece (Ok k) ∷ cs) v w (u, s, r) f e = sym (s.behind (taken cs) closed) ∙ left_shut cs u w r (step_fixed v u (feeds piece (Ok k)) s f) e
-  left_shut (feeds piece (Err x) ∷ cs) v w (u, s, r) f e = sym (s.same (taken cs) closed) ∙ left_shut cs u w r (step_fixed v u (feeds piece (Err x)) s f) e
-  left_shut (closes (Ok k) ∷ cs) v w (u, s, r) f e =
-      ap (λ (z : List ℕ). v.means z closed) (shut_takes cs u w r s.now_shut) ∙ sym (s.final (taken cs) closed) ∙ left_shut cs u w r (step_fixed v u (closes (Ok k)) s f) e
-  left_shut (closes (Err x) ∷ cs) v w (u, s, r) f e = sym (s.same (taken cs) closed) ∙ left_shut cs u w r (step_fixed v u (closes (Err x)) s f) e
-  left_shut (asks (Ok i) ∷ cs) v w (u, s, r) f e = s.first (taken cs) closed ∙ ap (prepend i) (left_shut cs u w r (step_fixed v u (asks (Ok i)) s f) e)
-  left_shut (asks (Err x) ∷ cs) v w (u, s, r) f e = sym (s.same (taken cs) closed) ∙ left_shut cs u w r (step_fixed v u (asks (Err x)) s f) e
+  -- A closed stage heeds no text, in every state on the way.
+  left_shut : (cs : List (Call I)) (v w : View I) → Run v cs w → w.port ≡ shut → v.means (taken cs) closed ≡ prepends (handed cs) (w.means [] unclosed)
+  left_shut [] v w r e = v.lawful.shut_fixed (sym (ap (λ (z : View I). z.port) r) ∙ e) [] closed ∙ ap (λ (z : View I). z.means [] unclosed) (sym r)
+  left_shut (feeds piece (Ok k) ∷ cs) v w (u, s, r) e = sym (s.behind (taken cs) closed) ∙ left_shut cs u w r e
+  left_shut (feeds piece (Err x) ∷ cs) v w (u, s, r) e = sym (s.same (taken cs) closed) ∙ left_shut cs u w r e
+  left_shut (closes (Ok k) ∷ cs) v w (u, s, r) e =
+      ap (λ (z : List ℕ). v.means z closed) (shut_takes cs u w r s.now_shut) ∙ sym (s.final (taken cs) closed) ∙ left_shut cs u w r e
+  left_shut (closes (Err x) ∷ cs) v w (u, s, r) e = sym (s.same (taken cs) closed) ∙ left_shut cs u w r e
+  left_shut (asks (Ok i) ∷ cs) v w (u, s, r) e = s.first (taken cs) closed ∙ ap (prepend i) (left_shut cs u w r e)
+  left_shut (asks (Err x) ∷ cs) v w (u, s, r) e = sym (s.same (taken cs) closed) ∙ left_shut cs u w r e
 
-  pub left : (cs : List (Call I)) (v w : View I) → Lawful v.port v.means → Run v cs w → Left v.means cs w
-  left cs v w l r = record { now_left = at (shut_or_not w.port); still_left = left_open cs v w r }
+  pub left : (cs : List (Call I)) (v w : View I) → Run v cs w → Left v.means cs w
+  left cs v w r = record { now_left = at (shut_or_not w.port); still_left = left_open cs v w r }
     where
       at : (w.port ≡ shut) ⊎ ((w.port ≡ shut → ⊥) × (mark_of w.port ≡ unclosed)) → v.means (taken cs) (mark_of w.port) ≡ prepends (handed cs) (w.means [] unclosed)
-      at (inl e) = ap (λ (p : Port). v.means (taken cs) (mark_of p)) e ∙ left_shut cs v w r l.shut_fixed e
+      at (inl e) = ap (λ (p : Port). v.means (taken cs) (mark_of p)) e ∙ left_shut cs v w r e
       at (inr n) = ap (v.means (taken cs)) n.1 ∙ ap (λ (z : List ℕ). v.means z unclosed) (sym (append-nil (taken cs))) ∙ left_open cs v w r n.0 [] unclosed

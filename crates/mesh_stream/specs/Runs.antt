@@ -2,16 +2,17 @@
 use Rattle.std.specs.Prelude.{◌≡◌, ℕ, List, [], ◌∷◌, ◌++◌, take, Ok, Err, Result, ◌≢◌}
 use Rattle.mesh_stream.specs.declared.fault.Refusal.{Refusal}
 use Rattle.mesh_stream.specs.declared.stage.Standing.{Standing}
-use Rattle.mesh_stream.specs.Meaning.{Mark, unclosed, closed, Port, textless, open_for, shut, Outcome, outcome, Meaning}
+use Rattle.mesh_stream.specs.Meaning.{Mark, unclosed, closed, Port, textless, open_for, shut, Outcome, outcome, Meaning, Lawful}
 use Rattle.mesh_stream.specs.Calls.{Nexted, Fed, Closed}
 
--- A stage as its callers see it.
+-- A stage as its callers see it, with the law that it keeps.
 pub record View (I : Type 0) : Type 0 where
   pub port : Port
   pub means : Meaning I
+  pub lawful : Lawful port means
 
-abbrev pub viewed : {I : Type 0} → Port → Meaning I → View I
-viewed p g = record { port = p; means = g }
+abbrev pub viewed : {I : Type 0} (p : Port) (G : Meaning I) → Lawful p G → View I
+viewed p G l = record { port = p; means = G; lawful = l }
 
 -- A call with its answer.
 pub data Call (I : Type 0) : Type 0 where

@@ -1,0 +1,4 @@
+-- The law on runs.
+mod Handed
+mod Ending
+mod Keeping
