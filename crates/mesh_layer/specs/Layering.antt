@@ -1,10 +1,21 @@
--- What a layer means.
-use Rattle.std.specs.Prelude.{◌≡◌, List, [], Some, None, Option}
+-- What a layer means, and that a filter over a lawful stage is a lawful stage.
+use Rattle.std.specs.Prelude.{◌≡◌, refl, List, [], ◌∷◌, ◌++◌, Some, None, Option}
 use Rattle.mesh_stream.specs.declared.fault.Fault.{Fault}
 use Rattle.mesh_stream.specs.declared.stage.Standing.TheVariants.{Faulty}
-use Rattle.mesh_stream.specs.Meaning.{Outcome, outcome}
+use Rattle.mesh_stream.specs.declared.stage.Stage.{Ghosts as StageGhosts}
+use Rattle.mesh_stream.specs.Meaning.{Outcome, outcome, Meaning, Port, Lawful}
+use Rattle.mesh_stream.specs.Runs.{View, viewed}
+use Rattle.mesh_layer.specs.declared.filter.Filter.{Ghosts as FilterGhosts}
+use Rattle.mesh_layer.specs.declared.layer.Layer.{Layer}
+use Rattle.mesh_layer.specs.Filtering.{Filtering}
+use Rattle.mesh_layer.specs.LayeringLaw.{unless_faulty, layered_lawful, unless_faulty_filters}
 
--- A layer that is at fault gives nothing any more, whatever is below.
-abbrev pub unless_faulty : {I O : Type 0} → Option Fault → (Outcome I → Outcome O) → Outcome I → Outcome O
-unless_faulty (Some f) F o = outcome [] (Faulty f)
-unless_faulty None F o = F o
+-- How a stage is seen.
+abbrev pub seen : {S I : Type 0} → StageGhosts S I → S → View I
+seen stage s = viewed (stage.port s) (stage.meaning s) (stage.lawful s)
+
+-- How a layer is seen: it takes text as the stage below does, and its filter rewrites what that gives.
+abbrev pub seen_through : {S F I O R : Type 0} → StageGhosts S I → FilterGhosts F I O R → Layer S F I O R → View O
+seen_through stage filter l = viewed (stage.port l.below)
+    (λ t m. unless_faulty l.fault (filter.rewrites l.filter l.rest) (stage.meaning l.below t m))
+    (layered_lawful (unless_faulty_filters l.fault (filter.filters l.filter l.rest)) (stage.lawful l.below))

@@ -6,7 +6,11 @@ use Rattle.mesh_stream.specs.declared.stage.Standing.{Standing}
 use Rattle.mesh_stream.specs.declared.stage.Standing.TheVariants.{Waiting, Ended, Faulty}
 use Rattle.mesh_stream.specs.Meaning.{Mark, unclosed, Outcome, outcome, Meaning, Port, Begins, IsWaiting, Fixed, Lawful}
 use Rattle.mesh_layer.specs.Filtering.{Filtering}
-use Rattle.mesh_layer.specs.Layering.{unless_faulty}
+
+-- A layer that is at fault gives nothing any more, whatever is below.
+abbrev pub unless_faulty : {I O : Type 0} → Option Fault → (Outcome I → Outcome O) → Outcome I → Outcome O
+unless_faulty (Some f) F o = outcome [] (Faulty f)
+unless_faulty None F o = F o
 
 pub unless_faulty_filters : {I O : Type 0} {F : Outcome I → Outcome O} (fault : Option Fault) → Filtering F → Filtering (unless_faulty fault F)
 unless_faulty_filters (Some f) k = record {

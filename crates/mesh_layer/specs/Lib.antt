@@ -1,7 +1,7 @@
 -- Filters, and layers of them.
 pub mod Filtering
-pub mod Layering
 pub mod LayeringLaw
+pub mod Layering
 -- Filters that are machines.
 pub mod Machine
 pub mod MachineLaw

@@ -1,5 +1,4 @@
-ghost use Rattle.mesh_layer.specs.Layering.{unless_faulty};
-ghost use Rattle.mesh_layer.specs.LayeringLaw.{layered_lawful, unless_faulty_filters};
+ghost use Rattle.mesh_layer.specs.Layering.{seen_through};
 
 use super::Layer;
 use crate::filter::Filter;
@@ -8,11 +7,11 @@ use mesh_stream::stage::{Stage, Standing};
 impl<S: Stage, F: Filter<In = S::Item>> Stage for Layer<S, F> {
     type Item = F::Out;
 
-    ghost meaning = { λ l t m. unless_faulty l.fault (F.Filter.rewrites l.filter l.rest) (S.Stage.meaning l.below t m) };
+    ghost meaning = { λ l. (seen_through S.Stage F.Filter l).means };
 
-    ghost port = { λ l. S.Stage.port l.below };
+    ghost port = { λ l. (seen_through S.Stage F.Filter l).port };
 
-    ghost lawful = { λ l. layered_lawful (unless_faulty_filters l.fault (F.Filter.filters l.filter l.rest)) (S.Stage.lawful l.below) };
+    ghost lawful = { λ l. (seen_through S.Stage F.Filter l).lawful };
 
     fn next(&mut self) -> Result<F::Out, Standing> {
         loop {

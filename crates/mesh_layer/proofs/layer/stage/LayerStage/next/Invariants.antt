@@ -1,7 +1,7 @@
 use Rattle.std.proofs.Common.{◌≡◌, ℕ, length, List, []}
 use Rattle.mesh_stream.specs.Meaning.{Mark, unclosed}
 use Rattle.mesh_stream.specs.Calls.{SameKind}
-use Rattle.mesh_layer.specs.Layering.{unless_faulty}
+use Rattle.mesh_layer.specs.LayeringLaw.{unless_faulty}
 use Rattle.mesh_layer.proofs.layer.stage.LayerStage.next.Given as goal
 
 abbrev pub invariant-loop-self : goal.invariant-loop-self
