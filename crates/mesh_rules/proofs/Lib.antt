@@ -6,3 +6,5 @@ pub mod Distinct
 pub mod Refusing
 pub mod Living
 pub mod Bounding
+-- What each layer makes of an accepted list.
+pub mod Thinning
