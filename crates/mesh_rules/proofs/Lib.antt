@@ -1,0 +1,4 @@
+-- Stands in for the base lemmas.
+pub mod Borrowed
+-- Numbering vertices anew, and moving them.
+pub mod Numbering
