@@ -6,3 +6,6 @@ pub mod Distinct
 pub mod Refusing
 pub mod Living
 pub mod Bounding
+-- Numbering vertices anew, and moving them.
+pub mod Numbering
+pub mod Introducing

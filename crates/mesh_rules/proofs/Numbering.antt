@@ -14,7 +14,9 @@ use Rattle.mesh_rules.specs.Rewriting.{renamed, count_before, position, renumber
 use Rattle.mesh_stream.proofs.Having.{kept_yes, kept_no, Within, has_left, has_self, not_has_nil, above_not_has}
 use Rattle.mesh_stream.proofs.Views.{introduced-++}
 use Rattle.mesh_judge.proofs.Refusing.{VertexOk, TriangleOk, vertex_ok, triangle_ok, final_ok}
-use Rattle.mesh_rules.proofs.Borrowed.{ok_vertex, ok_triangle, ok_final, has_map, above_map, few_introduced}
+use Rattle.mesh_rules.proofs.Having.{has_map, above_map}
+use Rattle.mesh_rules.proofs.Refusing.{ok_vertex, ok_triangle, ok_final}
+use Rattle.mesh_rules.proofs.Bounding.{bounded, few_introduced}
 
 -- Accepted but for the order of the numbers: they differ.
 abbrev pub Loose : ℕ → List Event → Event → Type 0
@@ -193,7 +195,7 @@ loosely_renumbered limit es few h = renumbered_after limit (introduced es) few e
 
 -- Renumber keeps a list accepted, under the same limit, and leaves no vertex live that was not.
 pub renumbered_accepted : (limit : ℕ) (es : List Event) → Accepted (refusal limit) es → Accepted (refusal limit) (renumbered es)
-renumbered_accepted limit es ok = loosely_renumbered limit es (few_introduced limit es ok) (loosely limit es ok)
+renumbered_accepted limit es ok = loosely_renumbered limit es (few_introduced limit es (bounded limit es ok)) (loosely limit es ok)
 
 pub renumbered_none_live : (es : List Event) → live es ≡ [] → live (renumbered es) ≡ []
 renumbered_none_live es e =
