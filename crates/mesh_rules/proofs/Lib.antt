@@ -6,5 +6,8 @@ pub mod Distinct
 pub mod Refusing
 pub mod Living
 pub mod Bounding
--- What each layer makes of an accepted list.
+-- What clean and clip leave of a list.
 pub mod Thinning
+-- Numbering vertices anew, and moving them.
+pub mod Numbering
+pub mod Introducing
