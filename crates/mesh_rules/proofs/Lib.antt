@@ -11,3 +11,6 @@ pub mod Thinning
 -- Numbering vertices anew, and moving them.
 pub mod Numbering
 pub mod Introducing
+pub mod Naming
+-- What they make of a list that goes on.
+pub mod Continuing
