@@ -6,6 +6,7 @@ pub mod Distinct
 pub mod Refusing
 pub mod Living
 pub mod Bounding
+pub mod Beginnings
 -- What clean and clip leave of a list.
 pub mod Thinning
 -- Numbering vertices anew, and moving them.
