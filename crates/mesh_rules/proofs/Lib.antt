@@ -9,3 +9,4 @@ pub mod Bounding
 -- Numbering vertices anew, and moving them.
 pub mod Numbering
 pub mod Introducing
+pub mod Moving
