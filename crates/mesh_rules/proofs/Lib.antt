@@ -10,3 +10,4 @@ pub mod Bounding
 pub mod Numbering
 pub mod Introducing
 pub mod Moving
+pub mod Compacting
