@@ -12,6 +12,9 @@ pub mod Thinning
 -- Numbering vertices anew, and moving them.
 pub mod Numbering
 pub mod Introducing
-pub mod Naming
+pub mod Moving
+pub mod Compacting
 -- What they make of a list that goes on.
+pub mod Naming
 pub mod Continuing
+pub mod Prefixes
