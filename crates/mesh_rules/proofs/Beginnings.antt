@@ -1,5 +1,5 @@
 -- The accepted beginning of a list, and of one that goes on.
-use Rattle.std.proofs.Common.{◌≡◌, List, [], ◌∷◌, ◌++◌, Some, None, Option, sym, refl, ap, ◌∙◌, append-nil}
+use Rattle.std.proofs.Common.{◌≡◌, List, [], ◌∷◌, ◌++◌, Some, None, Option, sym, refl, ap, ◌∙◌, subst, append_assoc, append-nil}
 use Rattle.std.proofs.lemmas.Option.{none-some}
 use Rattle.mesh_stream.specs.declared.event.Event.{Event}
 use Rattle.mesh_stream.specs.declared.fault.Cause.{Cause}
@@ -19,6 +19,13 @@ module _ (rules : Rules) where
 
   pub accepted_ok : (es : List Event) → Accepted rules (accepted rules es)
   accepted_ok es = accepted_ok_after es []
+
+  -- a front of an accepted list is accepted, and what is behind it is behind it
+  pub accepted_parts : (xs ys before : List Event) → AcceptedAfter rules before (xs ++ ys) → AcceptedAfter rules before xs × AcceptedAfter rules (before ++ xs) ys
+  accepted_parts [] ys before h = (tt, subst (λ (z : List Event). AcceptedAfter rules z ys) (sym (append-nil before)) h)
+  accepted_parts (x ∷ xs) ys before (a, h) =
+      let r = accepted_parts xs ys (before ++ (x ∷ [])) h in
+      ((a, r.0), subst (λ (z : List Event). AcceptedAfter rules z ys) (append_assoc before (x ∷ []) xs) r.1)
 
   -- what stops nowhere is accepted
   pub not_stopped : (es before : List Event) → stop_after rules before es ≡ None → AcceptedAfter rules before es

@@ -18,3 +18,6 @@ pub mod Compacting
 pub mod Naming
 pub mod Continuing
 pub mod Prefixes
+-- The layers, and piles of them.
+pub mod Layers
+pub mod Piling
