@@ -17,3 +17,5 @@ pub mod Compacting
 pub mod Naming
 pub mod Continuing
 pub mod Prefixes
+-- What looking up says of them.
+pub mod Faithful
