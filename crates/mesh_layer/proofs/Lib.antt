@@ -1,4 +1,4 @@
 -- The law on runs.
-mod Handed
-mod Ending
-mod Keeping
+pub mod Handed
+pub mod Ending
+pub mod Keeping
