@@ -1,5 +1,5 @@
 -- After a next that answered ended nothing more comes, whatever is called; and what that says of the lists below.
-use Rattle.std.proofs.Common.{◌≡◌, ℕ, Bool, true, false, ◌||◌, ◌⊎◌, List, [], ◌∷◌, ◌++◌, take, length, Ok, Err, Some, None, Option, sym, refl, ap, ◌∙◌, subst, inl, inr, append_assoc, append-nil}
+use Rattle.std.proofs.Common.{◌≡◌, ℕ, true, false, List, [], ◌∷◌, ◌++◌, take, length, Ok, Err, Some, None, Option, sym, refl, ap, ◌∙◌, subst}
 use Rattle.std.proofs.lemmas.Bool.{both_ways}
 use Rattle.mesh_stream.specs.declared.event.Event.{Event}
 use Rattle.mesh_stream.specs.declared.fault.LayerName.{LayerName}
@@ -7,10 +7,10 @@ use Rattle.mesh_stream.specs.declared.fault.Cause.{Cause}
 use Rattle.mesh_stream.specs.declared.stage.Standing.{Standing}
 use Rattle.mesh_stream.specs.declared.stage.Standing.TheVariants.{Waiting, Ended, Faulty}
 use Rattle.mesh_stream.specs.Live.{live}
-use Rattle.mesh_stream.specs.Meaning.{Mark, unclosed, closed, Outcome, outcome, prepend, IsWaiting, Meaning}
+use Rattle.mesh_stream.specs.Meaning.{Mark, unclosed, closed, Outcome, outcome, prepend, IsWaiting}
 use Rattle.mesh_stream.specs.Runs.{View, Call, feeds, closes, asks, Step, Run}
 use Rattle.mesh_judge.specs.Accepting.{Rules, accept, accepted_after, accepted, Stop, stop, stop_after, end_with, stands_over, stands_by, judged}
-use Rattle.mesh_layer.specs.Law.{has_ended, is_end}
+use Rattle.mesh_layer.specs.Law.{has_ended}
 
 abbrev pub IsOver : View Event → Type 0
 IsOver v = (t : List ℕ) (m : Mark) → v.means t m ≡ outcome [] Ended

@@ -1,6 +1,6 @@
 -- What holds of every beginning of an accepted list, and of an accepted list that leaves no vertex live.
-use Rattle.std.proofs.Common.{◌≡◌, ℕ, suc, ◌≤◌, Bool, true, false, not, eqb, ◌⊎◌, List, [], ◌∷◌, ◌++◌, length, filter, None, sym, refl, ap, ◌∙◌, subst, inl, inr, append_assoc, append-nil, arith}
-use Rattle.std.proofs.lemmas.Bool.{both_ways, eqb-true, or_cases, or_parts, or_from, and_parts, and_from}
+use Rattle.std.proofs.Common.{◌≡◌, ℕ, suc, ◌≤◌, Bool, true, false, not, eqb, List, [], ◌∷◌, ◌++◌, length, filter, None, sym, refl, ap, ◌∙◌, subst, inl, inr, append_assoc, append-nil, arith}
+use Rattle.std.proofs.lemmas.Bool.{both_ways, eqb-true, or_cases, or_parts, and_parts, and_from}
 use Rattle.mesh_stream.specs.declared.event.Event.{Event}
 use Rattle.mesh_stream.specs.declared.event.Event.TheVariants.{Vertex, Triangle, Finalization}
 use Rattle.mesh_stream.specs.Lists.{has}
@@ -8,7 +8,7 @@ use Rattle.mesh_stream.specs.Events.{introduced, finalized}
 use Rattle.mesh_stream.specs.Live.{live, is_live, width_after}
 use Rattle.mesh_stream.proofs.Having.{has_filter, kept_yes, kept_no}
 use Rattle.mesh_stream.proofs.Views.{finalized_v, finalized_t, finalized_f}
-use Rattle.mesh_stream.proofs.Distinct.{Distinct, distinct_push, eqb_comm}
+use Rattle.mesh_stream.proofs.Distinct.{Distinct, distinct_push}
 use Rattle.mesh_judge.specs.Accepting.{Rules, refusal, Accepted, AcceptedAfter}
 use Rattle.mesh_judge.proofs.Refusing.{triangle_ok, final_ok}
 use Rattle.mesh_judge.proofs.Living.{live_introduced}
@@ -72,7 +72,7 @@ counted_once n (x ∷ xs) (a, d) h = at (eqb n x) refl (counted_once n xs d)
   where
     at : (b : Bool) → eqb n x ≡ b → (has n xs ≡ true → length (filter (λ m. eqb n m) xs) ≡ 1) → length (filter (λ m. eqb n m) (x ∷ xs)) ≡ 1
     at true e ih = ap length (kept_yes (λ m. eqb n m) x xs e) ∙ ap suc (none_counted n xs (ap (λ z. has z xs) (eqb-true n x e) ∙ a))
-    at false e ih = ap length (kept_no (λ m. eqb n m) x xs e) ∙ ih (elim (or_cases (eqb n x) (has n xs) h) [ | inl t ↦ absurd (both_ways (eqb n x) e t) | inr k ↦ k ])
+    at false e ih = ap length (kept_no (λ m. eqb n m) x xs e) ∙ ih (elim (or_cases (eqb n x) (has n xs) h) [ inl t ↦ absurd (both_ways (eqb n x) e t) | inr k ↦ k ])
 
 pub closed_off : (limit : ℕ) (es : List Event) → Accepted (refusal limit) es → live es ≡ [] → ClosedOff es
 closed_off limit es h l n i = counted_once n (finalized es) (distinct_after limit es [] tt h) (at (has n (finalized es)) refl)

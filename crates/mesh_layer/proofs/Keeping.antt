@@ -1,16 +1,16 @@
 -- Every run from a pile keeps the law.
-use Rattle.std.proofs.Common.{◌≡◌, ℕ, ◌+◌, ◌≤◌, Bool, true, List, [], ◌∷◌, ◌++◌, length, length-append, sym, refl, ap, ◌∙◌, subst, append-nil, arith, Ok, Err}
+use Rattle.std.proofs.Common.{◌≡◌, ℕ, ◌+◌, ◌≤◌, true, List, [], ◌∷◌, ◌++◌, length, length-append, sym, refl, ap, ◌∙◌, subst, append-nil, arith}
 use Rattle.mesh_stream.specs.declared.event.Event.{Event}
 use Rattle.mesh_stream.specs.declared.stage.Standing.{Standing}
 use Rattle.mesh_stream.specs.declared.stage.Standing.TheVariants.{Ended}
 use Rattle.mesh_stream.specs.Live.{live, width}
-use Rattle.mesh_stream.specs.Meaning.{Mark, unclosed, Port, shut, Outcome, outcome, Meaning, Begins, Same}
+use Rattle.mesh_stream.specs.Meaning.{Mark, unclosed, Outcome, outcome, Meaning, Same}
 use Rattle.mesh_stream.specs.Runs.{View, Call, Run, taken, handed, mark_of, prepends}
 use Rattle.mesh_stream.proofs.Running.{left}
-use Rattle.mesh_judge.specs.Accepting.{refusal, Accepted, accepted, judged}
+use Rattle.mesh_judge.specs.Accepting.{refusal, Accepted, accepted}
 use Rattle.mesh_rules.specs.Piling.{Rule, name_of, through, pile, lowest_stands}
 use Rattle.mesh_rules.proofs.Piling.{pile_laws}
-use Rattle.mesh_layer.specs.Law.{Piled, Gives, Idles, has_ended, WellFormed, ClosedOff, layers, bottom_outcome, whole_mesh, LawKept, Law, PutOn}
+use Rattle.mesh_layer.specs.Law.{Piled, Gives, Idles, has_ended, ClosedOff, layers, bottom_outcome, whole_mesh, Law, PutOn}
 use Rattle.mesh_layer.proofs.Handed.{accepted_front, well_formed, closed_off, width_front}
 use Rattle.mesh_layer.proofs.Ending.{ended_is_over, ended_leaves_none}
 

@@ -2,3 +2,4 @@
 pub mod Handed
 pub mod Ending
 pub mod Keeping
+pub mod Runs

@@ -1,5 +1,5 @@
 -- What a filter does to the outcome of the stage below.
-use Rattle.std.specs.Prelude.{◌≡◌, ℕ, List, [], ◌∷◌, ◌++◌, Some, None, Option, Ok, Err, Result}
+use Rattle.std.specs.Prelude.{◌≡◌, List, [], ◌++◌, Some, None, Option, Ok, Err, Result}
 use Rattle.mesh_stream.specs.declared.fault.Fault.{Fault}
 use Rattle.mesh_stream.specs.declared.stage.Standing.{Standing}
 use Rattle.mesh_stream.specs.declared.stage.Standing.TheVariants.{Faulty}

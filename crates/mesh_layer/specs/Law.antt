@@ -7,7 +7,7 @@ use Rattle.mesh_stream.specs.declared.stage.Standing.TheVariants.{Waiting, Ended
 use Rattle.mesh_stream.specs.Lists.{has}
 use Rattle.mesh_stream.specs.Events.{introduced, finalized}
 use Rattle.mesh_stream.specs.Live.{width}
-use Rattle.mesh_stream.specs.Meaning.{Mark, Port, shut, Outcome, Meaning, Begins, Same}
+use Rattle.mesh_stream.specs.Meaning.{Mark, shut, Outcome, Meaning, Begins, Same}
 use Rattle.mesh_stream.specs.Runs.{View, Call, feeds, closes, asks, Step, Run, taken, handed, mark_of}
 use Rattle.mesh_judge.specs.Accepting.{refusal, accepted}
 use Rattle.mesh_rules.specs.Piling.{Rule, through, pile, lowest_stands}

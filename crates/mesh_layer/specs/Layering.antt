@@ -1,13 +1,8 @@
 -- What a layer means, and that a filter over a lawful stage is a lawful stage.
-use Rattle.std.specs.Prelude.{◌≡◌, refl, List, [], ◌∷◌, ◌++◌, Some, None, Option}
-use Rattle.mesh_stream.specs.declared.fault.Fault.{Fault}
-use Rattle.mesh_stream.specs.declared.stage.Standing.TheVariants.{Faulty}
 use Rattle.mesh_stream.specs.declared.stage.Stage.{Ghosts as StageGhosts}
-use Rattle.mesh_stream.specs.Meaning.{Outcome, outcome, Meaning, Port, Lawful}
 use Rattle.mesh_stream.specs.Runs.{View, viewed}
 use Rattle.mesh_layer.specs.declared.filter.Filter.{Ghosts as FilterGhosts}
 use Rattle.mesh_layer.specs.declared.layer.Layer.{Layer}
-use Rattle.mesh_layer.specs.Filtering.{Filtering}
 use Rattle.mesh_layer.specs.LayeringLaw.{unless_faulty, layered_lawful, unless_faulty_filters}
 
 -- How a stage is seen.

@@ -1,10 +1,10 @@
 -- A filter over a lawful stage is a lawful stage.
-use Rattle.std.specs.Prelude.{◌≡◌, refl, List, [], ◌∷◌, ◌++◌, Some, None, Option}
-use Rattle.std.proofs.Common.{sym, ap, subst, ◌∙◌, ◌⊎◌, inl, inr}
+use Rattle.std.specs.Prelude.{◌≡◌, refl, List, [], ◌++◌, Some, None, Option}
+use Rattle.std.proofs.Common.{sym, ap, subst, ◌⊎◌, inl, inr}
 use Rattle.mesh_stream.specs.declared.fault.Fault.{Fault}
 use Rattle.mesh_stream.specs.declared.stage.Standing.{Standing}
 use Rattle.mesh_stream.specs.declared.stage.Standing.TheVariants.{Waiting, Ended, Faulty}
-use Rattle.mesh_stream.specs.Meaning.{Mark, unclosed, Outcome, outcome, Meaning, Port, Begins, IsWaiting, Fixed, Lawful}
+use Rattle.mesh_stream.specs.Meaning.{unclosed, Outcome, outcome, Meaning, Port, Begins, IsWaiting, Fixed, Lawful}
 use Rattle.mesh_layer.specs.Filtering.{Filtering}
 
 -- A layer that is at fault gives nothing any more, whatever is below.

@@ -7,3 +7,5 @@ pub mod Machine
 pub mod MachineLaw
 -- The law on runs.
 pub mod Law
+-- Orders worked off.
+pub mod Ordering

@@ -1,5 +1,5 @@
 -- A machine takes items one by one and hands over a list for each: what it hands over for a whole list.
-use Rattle.std.specs.Prelude.{List, [], ◌∷◌, ◌++◌}
+use Rattle.std.specs.Prelude.{List, [], ◌∷◌}
 use Rattle.mesh_stream.specs.declared.fault.Fault.{Fault}
 use Rattle.mesh_stream.specs.declared.stage.Standing.{Standing}
 use Rattle.mesh_stream.specs.declared.stage.Standing.TheVariants.{Faulty}

@@ -3,3 +3,5 @@
 
 pub mod filter;
 pub mod layer;
+pub mod order;
+pub mod work;

@@ -1,4 +1,4 @@
-use Rattle.std.proofs.Common.{refl, ap, ◌∙◌, ◌≡◌, None}
+use Rattle.std.proofs.Common.{refl, ap, ◌∙◌, None}
 use Rattle.mesh_layer.specs.Layering.{seen, seen_through}
 use Rattle.mesh_layer.proofs.Keeping.{put_on}
 use Rattle.mesh_layer.proofs.layer.Layer.over.Goals as goal
