@@ -11,3 +11,5 @@ pub mod Thinning
 -- Numbering vertices anew, and moving them.
 pub mod Numbering
 pub mod Introducing
+pub mod Moving
+pub mod Compacting

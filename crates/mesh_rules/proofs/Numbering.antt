@@ -13,7 +13,7 @@ use Rattle.mesh_judge.specs.Accepting.{refusal, Accepted, AcceptedAfter}
 use Rattle.mesh_rules.specs.Rewriting.{renamed, count_before, position, renumbered}
 use Rattle.mesh_stream.proofs.Having.{kept_yes, kept_no, Within, has_left, has_self, not_has_nil, above_not_has}
 use Rattle.mesh_stream.proofs.Views.{introduced-++}
-use Rattle.mesh_judge.proofs.Refusing.{VertexOk, TriangleOk, vertex_ok, triangle_ok, final_ok}
+use Rattle.mesh_judge.proofs.Refusing.{TriangleOk, vertex_ok, triangle_ok, final_ok}
 use Rattle.mesh_rules.proofs.Having.{has_map, above_map}
 use Rattle.mesh_rules.proofs.Refusing.{ok_vertex, ok_triangle, ok_final}
 use Rattle.mesh_rules.proofs.Bounding.{bounded, few_introduced}
