@@ -13,3 +13,6 @@ pub mod Numbering
 pub mod Introducing
 pub mod Moving
 pub mod Compacting
+pub mod Naming
+-- What they make of a list that goes on.
+pub mod Continuing
