@@ -1,0 +1,6 @@
+-- The frame: a memory that recalls the accepted list, and that a layer which keeps such a memory gives the whole rewriting.
+pub mod Recalling
+pub mod Rules
+-- The layers.
+pub mod Passing
+pub mod Renumbering
