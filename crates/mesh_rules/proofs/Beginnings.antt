@@ -21,7 +21,8 @@ module _ (rules : Rules) where
   accepted_ok es = accepted_ok_after es []
 
   -- a front of an accepted list is accepted, and what is behind it is behind it
-  pub accepted_parts : (xs ys before : List Event) → AcceptedAfter rules before (xs ++ ys) → AcceptedAfter rules before xs × AcceptedAfter rules (before ++ xs) ys
+  pub accepted_parts : (xs ys before : List Event) → AcceptedAfter rules before (xs ++ ys)
+      → AcceptedAfter rules before xs × AcceptedAfter rules (before ++ xs) ys
   accepted_parts [] ys before h = (tt, subst (λ (z : List Event). AcceptedAfter rules z ys) (sym (append-nil before)) h)
   accepted_parts (x ∷ xs) ys before (a, h) =
       let r = accepted_parts xs ys (before ++ (x ∷ [])) h in
@@ -33,7 +34,8 @@ module _ (rules : Rules) where
   not_stopped (e ∷ es) before h = at (rules before e) refl h (not_stopped es (before ++ (e ∷ [])))
     where
       at : (o : Option Cause) → rules before e ≡ o → stop o e (stop_after rules (before ++ (e ∷ [])) es) ≡ None
-          → (stop_after rules (before ++ (e ∷ [])) es ≡ None → AcceptedAfter rules (before ++ (e ∷ [])) es) → AcceptedAfter rules before (e ∷ es)
+          → (stop_after rules (before ++ (e ∷ [])) es ≡ None → AcceptedAfter rules (before ++ (e ∷ [])) es)
+          → AcceptedAfter rules before (e ∷ es)
       at None k n ih = (k, ih n)
       at (Some c) k n ih = absurd (none-some _ (sym n))
 
@@ -61,5 +63,6 @@ module _ (rules : Rules) where
       at : (o : Option Stop) → stop_after rules [] xs ≡ o → Begins (accepted rules xs) (accepted rules (xs ++ ys))
       at None k =
           let ok = not_stopped xs [] k in
-          (accepted_after rules xs ys, accepted_split rules xs ys [] ok ∙ ap (λ (z : List Event). z ++ accepted_after rules xs ys) (sym (all_accepted xs ok)))
+          let more : List Event = accepted_after rules xs ys in
+          (more, accepted_split rules xs ys [] ok ∙ ap (λ (z : List Event). z ++ more) (sym (all_accepted xs ok)))
       at (Some s) k = ([], (stops_there xs ys [] s k).0 ∙ sym (append-nil (accepted rules xs)))

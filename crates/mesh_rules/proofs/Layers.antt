@@ -1,5 +1,6 @@
--- What each layer makes of an accepted list is accepted, no wider, leaves no vertex live if the list leaves none, and goes on as the list does.
-use Rattle.std.proofs.Common.{◌≡◌, ℕ, ◌≤◌, List, [], ◌∷◌, ◌++◌, sym, refl, subst}
+-- What each layer makes of an accepted list is accepted and no wider, leaves no vertex live if the list leaves none,
+-- and goes on as the list does.
+use Rattle.std.proofs.Common.{◌≡◌, ℕ, List, [], ◌++◌, sym, refl, subst}
 use Rattle.std.specs.List.{AllByRecursion as All}
 use Rattle.mesh_stream.specs.declared.event.Event.{Event}
 use Rattle.mesh_stream.specs.Events.{introduced}
@@ -31,7 +32,8 @@ rewritten_none_live (clips inside) limit es h e = clip_none_live inside es e
 rewritten_none_live compacts limit es h e = compacted_none_live limit es h e
 rewritten_none_live renumbers limit es h e = renumbered_none_live es e
 
-pub rewritten_begins : (r : Rule) (limit : ℕ) (xs ys : List Event) → Accepted (refusal limit) (xs ++ ys) → Begins (rewritten r xs) (rewritten r (xs ++ ys))
+pub rewritten_begins : (r : Rule) (limit : ℕ) (xs ys : List Event) → Accepted (refusal limit) (xs ++ ys)
+    → Begins (rewritten r xs) (rewritten r (xs ++ ys))
 rewritten_begins r limit xs ys h = at r (accepted_parts (refusal limit) xs ys [] h)
   where
     known : Accepted (refusal limit) xs → All (Known (introduced xs)) xs
@@ -49,5 +51,7 @@ rewriting_laws limit r es h = record {
   stays_accepted = rewritten_accepted r limit es h;
   no_wider = never_wider (rewritten r) limit es (λ k. rewritten_accepted r k es) h;
   none_live = rewritten_none_live r limit es h;
-  begins = λ xs ys e. subst (λ (z : List Event). Begins (rewritten r xs) (rewritten r z)) (sym e) (rewritten_begins r limit xs ys (subst (Accepted (refusal limit)) e h));
+  begins = λ xs ys e.
+      let b = rewritten_begins r limit xs ys (subst (Accepted (refusal limit)) e h) in
+      subst (λ (z : List Event). Begins (rewritten r xs) (rewritten r z)) (sym e) b;
 }

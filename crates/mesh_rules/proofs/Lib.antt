@@ -21,3 +21,5 @@ pub mod Prefixes
 -- The layers, and piles of them.
 pub mod Layers
 pub mod Piling
+-- What looking up says of what they make.
+pub mod Faithful

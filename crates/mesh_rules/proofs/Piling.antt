@@ -8,7 +8,7 @@ use Rattle.mesh_stream.specs.Live.{live, width}
 use Rattle.mesh_stream.specs.Meaning.{Outcome, outcome}
 use Rattle.mesh_judge.specs.Accepting.{refusal, accepted, Accepted, Stop, stop_after, end_with, stands_over, stands_by, judged}
 use Rattle.mesh_judge.proofs.Splitting.{judged_all}
-use Rattle.mesh_rules.specs.Piling.{Rule, name_of, rewritten, rewrite, through, pile, rewritten_by_all}
+use Rattle.mesh_rules.specs.Piling.{Rule, name_of, rewritten, rewrite, pile, rewritten_by_all}
 use Rattle.mesh_rules.specs.RuleLaws.{PileLaws}
 use Rattle.mesh_rules.proofs.Bounding.{never_wider}
 use Rattle.mesh_rules.proofs.Beginnings.{accepted_ok, not_stopped, all_accepted}
@@ -30,7 +30,8 @@ ended_none layer es [] h = refl
 ended_none layer es (n ∷ ns) h = absurd h
 
 -- What judges ends only where it accepted all, and no vertex is live.
-ended_by : (layer : LayerName) (o : Option Stop) (es : List Event) (s : Standing) → IsEnded (stands_by layer o es s) → (o ≡ None) × (live es ≡ [])
+ended_by : (layer : LayerName) (o : Option Stop) (es : List Event) (s : Standing) → IsEnded (stands_by layer o es s)
+    → (o ≡ None) × (live es ≡ [])
 unfolding IsEnded
 ended_by layer (Some z) es s h = absurd h
 ended_by layer None es Waiting h = absurd h
@@ -64,24 +65,30 @@ rewrite_proper limit r o p = record {
   over = λ e. rewritten_none_live r limit o.items p.ok (p.over e);
 }
 
-pile_proper : (limit : ℕ) (rs : List Rule) (o : Outcome Event) → Proper limit o → pile limit rs o ≡ outcome (rewritten_by_all rs o.items) o.stands
+pile_proper : (limit : ℕ) (rs : List Rule) (o : Outcome Event) → Proper limit o
+    → pile limit rs o ≡ outcome (rewritten_by_all rs o.items) o.stands
 pile_proper limit [] o p = refl
 pile_proper limit (r ∷ rs) o p =
-    ap (λ (z : Outcome Event). pile limit rs (rewrite r z)) (judged_again limit (name_of r) o p) ∙ pile_proper limit rs (rewrite r o) (rewrite_proper limit r o p)
+    ap (λ (z : Outcome Event). pile limit rs (rewrite r z)) (judged_again limit (name_of r) o p)
+    ∙ pile_proper limit rs (rewrite r o) (rewrite_proper limit r o p)
 
-pub by_all_accepted : (rs : List Rule) (limit : ℕ) (es : List Event) → Accepted (refusal limit) es → Accepted (refusal limit) (rewritten_by_all rs es)
+pub by_all_accepted : (rs : List Rule) (limit : ℕ) (es : List Event) → Accepted (refusal limit) es
+    → Accepted (refusal limit) (rewritten_by_all rs es)
 by_all_accepted [] limit es h = h
 by_all_accepted (r ∷ rs) limit es h = by_all_accepted rs limit (rewritten r es) (rewritten_accepted r limit es h)
 
-pub by_all_none_live : (rs : List Rule) (limit : ℕ) (es : List Event) → Accepted (refusal limit) es → live es ≡ [] → live (rewritten_by_all rs es) ≡ []
+pub by_all_none_live : (rs : List Rule) (limit : ℕ) (es : List Event) → Accepted (refusal limit) es
+    → live es ≡ [] → live (rewritten_by_all rs es) ≡ []
 by_all_none_live [] limit es h e = e
-by_all_none_live (r ∷ rs) limit es h e = by_all_none_live rs limit (rewritten r es) (rewritten_accepted r limit es h) (rewritten_none_live r limit es h e)
+by_all_none_live (r ∷ rs) limit es h e =
+    by_all_none_live rs limit (rewritten r es) (rewritten_accepted r limit es h) (rewritten_none_live r limit es h e)
 
 module _ (limit : ℕ) (r : Rule) (rs : List Rule) (bottom : Outcome Event) where
-  pub pile_is : pile limit (r ∷ rs) bottom ≡ outcome (rewritten_by_all (r ∷ rs) (accepted (refusal limit) bottom.items)) (judged (name_of r) (refusal limit) bottom).stands
+  pub pile_is : pile limit (r ∷ rs) bottom
+      ≡ outcome (rewritten_by_all (r ∷ rs) (accepted (refusal limit) bottom.items)) (judged (name_of r) (refusal limit) bottom).stands
   pile_is =
-      let p = judged_proper limit (name_of r) bottom in
-      pile_proper limit rs (rewrite r (judged (name_of r) (refusal limit) bottom)) (rewrite_proper limit r (judged (name_of r) (refusal limit) bottom) p)
+      let below = judged (name_of r) (refusal limit) bottom in
+      pile_proper limit rs (rewrite r below) (rewrite_proper limit r below (judged_proper limit (name_of r) bottom))
 
   items_are : (pile limit (r ∷ rs) bottom).items ≡ rewritten_by_all (r ∷ rs) (accepted (refusal limit) bottom.items)
   items_are = ap (λ (o : Outcome Event). o.items) pile_is
@@ -90,9 +97,10 @@ module _ (limit : ℕ) (r : Rule) (rs : List Rule) (bottom : Outcome Event) wher
   pile_laws =
       let taken = accepted (refusal limit) bottom.items in
       let ok : Accepted (refusal limit) taken = accepted_ok (refusal limit) bottom.items in
+      let narrow = never_wider (rewritten_by_all (r ∷ rs)) limit taken (λ k. by_all_accepted (r ∷ rs) k taken) ok in
       record {
         whole_mesh = pile_is;
         stays_accepted = subst (Accepted (refusal limit)) (sym items_are) (by_all_accepted (r ∷ rs) limit taken ok);
-        no_wider = subst (λ (z : List Event). width z ≤ width taken) (sym items_are) (never_wider (rewritten_by_all (r ∷ rs)) limit taken (λ k. by_all_accepted (r ∷ rs) k taken) ok);
+        no_wider = subst (λ (z : List Event). width z ≤ width taken) (sym items_are) narrow;
         none_live = λ e. ap live items_are ∙ by_all_none_live (r ∷ rs) limit taken ok e;
       }
