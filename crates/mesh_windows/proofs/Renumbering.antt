@@ -20,10 +20,10 @@ use Rattle.mesh_rules.specs.Piling.{renumbers, name_of, through}
 use Rattle.mesh_rules.proofs.Bounding.{bounded, few_introduced}
 use Rattle.mesh_rules.proofs.Numbering.{count_before_new}
 use Rattle.mesh_rules.proofs.Naming.{Known, map_agree_on}
-use Rattle.mesh_windows.specs.Windowing.{Memory, blank}
+use Rattle.mesh_windows.specs.Windowing.{blank}
 use Rattle.mesh_windows.specs.Working.{next_number, note_of, number_by, renumber_hands, renumber_work, windowed}
 use Rattle.mesh_windows.proofs.Recalling.{Recalls, held_at, Notes, unmarked_recalls}
-use Rattle.mesh_windows.proofs.Rules.{gives_by_notes}
+use Rattle.mesh_windows.proofs.Rules.{Adds, gives_by_notes}
 use Rattle.mesh_windows.proofs.Passing.{known_own}
 
 -- A list all of whose numbers are its own, with more behind it.
@@ -48,7 +48,8 @@ pub renumbered_more : (xs ys : List Event) → All (Known (introduced xs)) xs
 renumbered_more xs ys k =
     ap (λ (z : List ℕ). map (renamed (position z)) (xs ++ ys)) (introduced-++ xs ys)
     ∙ map-append (renamed f) xs ys
-    ∙ ap (λ (z : List Event). z ++ map (renamed f) ys) (map_agree_on (Known (introduced xs)) (renamed f) (renamed (position (introduced xs))) agree xs k)
+    ∙ ap (λ (z : List Event). z ++ map (renamed f) ys)
+    (map_agree_on (Known (introduced xs)) (renamed f) (renamed (position (introduced xs))) agree xs k)
   where
     f : ℕ → ℕ
     f = position (introduced xs ++ introduced ys)
@@ -56,7 +57,8 @@ renumbered_more xs ys k =
     one : (n : ℕ) → has n (introduced xs) ≡ true → position (introduced xs ++ introduced ys) n ≡ position (introduced xs) n
     one n h = position_stays (introduced xs) (introduced ys) n h
 
-    agree : (e : Event) → Known (introduced xs) e → renamed (position (introduced xs ++ introduced ys)) e ≡ renamed (position (introduced xs)) e
+    agree : (e : Event) → Known (introduced xs) e
+        → renamed (position (introduced xs ++ introduced ys)) e ≡ renamed (position (introduced xs)) e
     agree (Vertex l n v) h = ap (λ z. Vertex l z v) (one n h)
     agree (Triangle l a b c) h = triangle_same l _ _ _ _ _ _ (one a h.0) (one b h.1) (one c h.2)
     agree (Finalization l i) h = ap (λ z. Finalization l z) (one i h)
@@ -77,7 +79,8 @@ few limit es ok = few_introduced limit es (bounded limit es ok)
 
 new_number_stays : (es : List Event) (e : Event) (n : ℕ) → is_live es n ≡ true → new_number (es ++ (e ∷ [])) n ≡ new_number es n
 new_number_stays es e n l =
-    ap (λ (z : List ℕ). position z n) (introduced-++ es (e ∷ [])) ∙ position_stays (introduced es) (introduced (e ∷ [])) n (live_introduced es n l)
+    ap (λ (z : List ℕ). position z n) (introduced-++ es (e ∷ []))
+    ∙ position_stays (introduced es) (introduced (e ∷ [])) n (live_introduced es n l)
 
 number_given : (limit : ℕ) (es : List Event) (p n : ℕ) (v : Point) → Accepted (refusal limit) es → refusal limit es (Vertex p n v) ≡ None
     → position (introduced es ++ (n ∷ [])) n ≡ next_number (new_count es)
@@ -90,8 +93,11 @@ renumber_notes limit = record {
   none = refl;
   new = λ es p n v ok h. ap (λ (z : List ℕ). position z n) (introduced_v es p n v) ∙ number_given limit es p n v ok h;
   old = λ es p n v ok h i l. new_number_stays es (Vertex p n v) i l;
-  gives = λ es p n v ok h. ap length (introduced_v es p n v) ∙ length-append (introduced es) (n ∷ []) ∙ one_more (new_count es) (few limit es ok);
-  marked = λ m es p a b c r h. unmarked_recalls limit new_number new_count m es p a b c r h (new_number_stays es (Triangle p a b c)) (ap length (introduced_t es p a b c));
+  gives = λ es p n v ok h.
+      ap length (introduced_v es p n v) ∙ length-append (introduced es) (n ∷ []) ∙ one_more (new_count es) (few limit es ok);
+  marked = λ m es p a b c r h.
+      unmarked_recalls limit new_number new_count m es p a b c r h (new_number_stays es (Triangle p a b c))
+      (ap length (introduced_t es p a b c));
   left = λ es p i ok h n l. new_number_stays es (Finalization p i) n l;
   stays = λ es p i ok h. ap length (introduced_f es p i);
 }
@@ -99,9 +105,8 @@ renumber_notes limit = record {
     one_more : (k : ℕ) → k ≤ 100000000 → k + 1 ≡ next_number k
     one_more k l = omega arith
 
-renumber_more : (limit : ℕ) (m : Memory ℕ) (es : List Event) (e : Event) → Recalls limit new_number new_count m es → refusal limit es e ≡ None
-    → renumbered (es ++ (e ∷ [])) ≡ renumbered es ++ renumber_hands m e
-renumber_more limit m es e r h =
+renumber_adds : (limit : ℕ) → Adds limit renumber_work renumbered (Recalls limit new_number new_count)
+renumber_adds limit m es e r h =
     renumbered_more es (e ∷ []) (known_own limit es r.knows.accepted) ∙ ap (λ (z : List Event). renumbered es ++ z) (here e h)
   where
     at : (x : Event) (n : ℕ) → is_live es n ≡ true → position (introduced es ++ introduced (x ∷ [])) n ≡ number_by m.window n
@@ -119,4 +124,5 @@ renumber_more limit m es e r h =
     here (Finalization l i) k = ap (λ (z : ℕ). Finalization l z ∷ []) (at (Finalization l i) i (final_ok limit es l i k))
 
 pub renumber_whole : (limit : ℕ) (o : Outcome Event) → run (windowed limit renumbers) blank o.items o.stands ≡ through limit renumbers o
-renumber_whole limit = gives_by_notes limit (name_of renumbers) renumber_work renumbered new_number new_count (renumber_notes limit) refl (renumber_more limit)
+renumber_whole limit =
+    gives_by_notes limit (name_of renumbers) renumber_work renumbered new_number new_count (renumber_notes limit) refl (renumber_adds limit)
