@@ -1,5 +1,5 @@
 -- What a list accepted under a limit is bounded by, and other limits under which it is accepted.
-use Rattle.std.proofs.Common.{◌≡◌, ℕ, ◌+◌, ◌<◌, ◌≤◌, true, false, not, ◌&&◌, eqb, leb, ◌⊎◌, List, [], ◌∷◌, ◌++◌, length, None, sym, refl, ap, ◌∙◌, subst, inl, inr, append_assoc, append-nil, arith, length-append}
+use Rattle.std.proofs.Common.{◌≡◌, ℕ, ◌+◌, ◌<◌, ◌≤◌, true, false, not, eqb, leb, ◌⊎◌, List, [], ◌∷◌, ◌++◌, length, None, sym, refl, ap, ◌∙◌, subst, inl, inr, append_assoc, append-nil, arith, length-append}
 use Rattle.std.proofs.lemmas.Bool.{and_parts, both_ways, leb-true, eqb-true, or_cases}
 use Rattle.mesh_stream.specs.declared.event.Event.{Event}
 use Rattle.mesh_stream.specs.declared.event.Event.TheVariants.{Vertex, Triangle, Finalization}
@@ -27,7 +27,8 @@ numbers_push ns n s a v =
     let vn = and_parts (leb 1 n) (leb n 100000000) v in
     let less = s.counts n a (leb-true 1 n vn.0) in
     record {
-      counts = λ m b g. let t = above_has m (ns ++ (n ∷ [])) b n (has_right n ns (n ∷ []) (has_self n [])) in omega (arith, length-append ns (n ∷ []));
+      counts = λ m b g.
+          let t = above_has m (ns ++ (n ∷ [])) b n (has_right n ns (n ∷ []) (has_self n [])) in omega (arith, length-append ns (n ∷ []));
       small = λ m h. old m (leb-true n 100000000 vn.1) (has_cases m ns (n ∷ []) h);
     }
   where
@@ -55,10 +56,11 @@ module _ (limit : ℕ) (es : List Event) (s : Bounded limit es) where
   pub bounded_step : (e : Event) → refusal limit es e ≡ None → Bounded limit (es ++ (e ∷ []))
   bounded_step (Vertex l n v) h =
       let k = vertex_ok limit es l n v h in
+      let number = (and_parts (in_space v) (vertex_number n) k.in_range).1 in
       record {
         bound = omega (arith, k.room, live_more l n v k.above);
         sound = sound_step es s.sound limit (Vertex l n v) h;
-        numbers = subst Numbers (sym (introduced_v es l n v)) (numbers_push (introduced es) n s.numbers k.above (and_parts (in_space v) (vertex_number n) k.in_range).1);
+        numbers = subst Numbers (sym (introduced_v es l n v)) (numbers_push (introduced es) n s.numbers k.above number);
       }
   bounded_step (Triangle l a b c) h = record {
     bound = omega (arith, s.bound, ap length (live_triangle es l a b c));
@@ -71,7 +73,8 @@ module _ (limit : ℕ) (es : List Event) (s : Bounded limit es) where
     numbers = subst Numbers (sym (introduced_f es l i)) s.numbers;
   }
 
-pub bounded_after : (limit : ℕ) (es before : List Event) → Bounded limit before → AcceptedAfter (refusal limit) before es → Bounded limit (before ++ es)
+pub bounded_after : (limit : ℕ) (es before : List Event) → Bounded limit before → AcceptedAfter (refusal limit) before es
+    → Bounded limit (before ++ es)
 bounded_after limit [] before s h = subst (Bounded limit) (sym (append-nil before)) s
 bounded_after limit (e ∷ es) before s (a, h) =
     subst (Bounded limit) (append_assoc before (e ∷ []) es) (bounded_after limit es (before ++ (e ∷ [])) (bounded_step limit before s e a) h)
@@ -81,17 +84,19 @@ bounded limit es h = bounded_after limit es [] (bounded_none limit) h
 
 pub few_introduced : (limit : ℕ) (es : List Event) → Bounded limit es → length (introduced es) ≤ 100000000
 few_introduced limit es s =
-    let l : length (introduced es) < 100000001 = s.numbers.counts 100000001 (above_from 100000001 (introduced es) (λ n h. let k = s.numbers.small n h in omega arith)) (omega arith) in omega arith
+    let a = above_from 100000001 (introduced es) (λ n h. let k = s.numbers.small n h in omega arith) in
+    let l : length (introduced es) < 100000001 = s.numbers.counts 100000001 a (omega arith) in omega arith
 
 -- The width of an accepted list is within the limit, and the list is accepted under any limit that its width is within.
-pub width_within : (limit : ℕ) (es before : List Event) → Bounded limit before → AcceptedAfter (refusal limit) before es → width_after before es ≤ limit
+pub width_within : (limit : ℕ) (es before : List Event) → Bounded limit before → AcceptedAfter (refusal limit) before es
+    → width_after before es ≤ limit
 width_within limit [] before s h = omega arith
 width_within limit (e ∷ es) before s (a, h) =
     let t = bounded_step limit before s e a in
     let w = width_within limit es (before ++ (e ∷ [])) t h in omega (arith, t.bound)
 
-pub relimit : (limit other : ℕ) (es before : List Event) → Bounded limit before → AcceptedAfter (refusal limit) before es → width_after before es ≤ other
-    → AcceptedAfter (refusal other) before es
+pub relimit : (limit other : ℕ) (es before : List Event) → Bounded limit before → AcceptedAfter (refusal limit) before es
+    → width_after before es ≤ other → AcceptedAfter (refusal other) before es
 relimit limit other [] before s h w = tt
 relimit limit other (e ∷ es) before s (a, h) w =
     (here e a (omega arith), relimit limit other es (before ++ (e ∷ [])) (bounded_step limit before s e a) h (omega arith))
@@ -109,4 +114,5 @@ pub never_wider : (R : List Event → List Event) (limit : ℕ) (es : List Event
     → ((k : ℕ) → Accepted (refusal k) es → Accepted (refusal k) (R es))
     → Accepted (refusal limit) es → width (R es) ≤ width es
 never_wider R limit es keeps h =
-    width_within (width es) (R es) [] (bounded_none (width es)) (keeps (width es) (relimit limit (width es) es [] (bounded_none limit) h (omega arith)))
+    let k = keeps (width es) (relimit limit (width es) es [] (bounded_none limit) h (omega arith)) in
+    width_within (width es) (R es) [] (bounded_none (width es)) k

@@ -1,5 +1,5 @@
 -- What clean and clip make of a list begins what they make of the list that goes on.
-use Rattle.std.proofs.Common.{◌≡◌, ℕ, Bool, true, not, ◌&&◌, List, [], ◌∷◌, ◌++◌, filter, sym, refl, ap, ◌∙◌}
+use Rattle.std.proofs.Common.{◌≡◌, ℕ, Bool, true, not, ◌&&◌, List, ◌++◌, filter, sym, refl, ap, ◌∙◌}
 use Rattle.std.proofs.lemmas.List.Elements.{filter-append}
 use Rattle.std.specs.List.{AllByRecursion as All}
 use Rattle.mesh_stream.specs.declared.event.Point.{Point}
@@ -20,7 +20,8 @@ module _ (xs ys : List Event) (known : All (Known (introduced xs)) xs) where
   )
 
   -- a test that looks up the three corners
-  looked_up : (test : Point → Point → Point → Bool) (a b c : ℕ) → has a (introduced xs) ≡ true → has b (introduced xs) ≡ true → has c (introduced xs) ≡ true
+  looked_up : (test : Point → Point → Point → Bool) (a b c : ℕ)
+      → has a (introduced xs) ≡ true → has b (introduced xs) ≡ true → has c (introduced xs) ≡ true
       → test (point xs a) (point xs b) (point xs c) ≡ test (point (xs ++ ys) a) (point (xs ++ ys) b) (point (xs ++ ys) c)
   looked_up test a b c ha hb hc =
       ap (λ (z : Point). test z (point xs b) (point xs c)) (sym (point_stays xs ys a ha))

@@ -13,7 +13,8 @@ one_less : (n : ℕ) (ys : List ℕ) → has n ys ≡ true → suc (length (filt
 one_less n [] h = absurd (not_has_nil n h)
 one_less n (y ∷ ys) h = at (eqb y n) refl (one_less n ys)
   where
-    at : (b : Bool) → eqb y n ≡ b → (has n ys ≡ true → suc (length (filter (other n) ys)) ≤ length ys) → suc (length (filter (other n) (y ∷ ys))) ≤ suc (length ys)
+    at : (b : Bool) → eqb y n ≡ b → (has n ys ≡ true → suc (length (filter (other n) ys)) ≤ length ys)
+        → suc (length (filter (other n) (y ∷ ys))) ≤ suc (length ys)
     at true e ih = let l = kept_len (other n) ys in rw (kept_no (other n) y ys (ap not e)) (omega arith)
     at false e ih =
         let k : has n ys ≡ true = sym (ap (λ b. b || has n ys) (eqb_comm y n e)) ∙ h in

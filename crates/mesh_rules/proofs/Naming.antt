@@ -1,7 +1,6 @@
 -- Every number that an accepted list names is one that it introduces, so what goes by its vertices alone is settled by it.
-use Rattle.std.proofs.Common.{◌≡◌, ℕ, Bool, true, false, cond, ◌||◌, eqb, List, [], ◌∷◌, ◌++◌, map, filter, sym, refl, ap, ◌∙◌, subst, append_assoc}
+use Rattle.std.proofs.Common.{◌≡◌, ℕ, Bool, true, false, cond, ◌||◌, eqb, List, [], ◌∷◌, ◌++◌, map, filter, refl, ap, ◌∙◌, subst, append_assoc}
 use Rattle.std.specs.List.{AllByRecursion as All}
-use Rattle.mesh_stream.specs.declared.event.Point.{Point}
 use Rattle.mesh_stream.specs.declared.event.Event.{Event}
 use Rattle.mesh_stream.specs.declared.event.Event.TheVariants.{Vertex, Triangle, Finalization}
 use Rattle.mesh_stream.specs.Lists.{has}
@@ -21,7 +20,8 @@ Known ns (Finalization l i) = has i ns ≡ true
 known_after : (limit : ℕ) (es before : List Event) → Loosely limit before es → All (Known (introduced (before ++ es))) es
 known_after limit [] before h = tt
 known_after limit (e ∷ es) before (a, h) =
-    (here e a, subst (λ (z : List Event). All (Known (introduced z)) es) (append_assoc before (e ∷ []) es) (known_after limit es (before ++ (e ∷ [])) h))
+    let k = known_after limit es (before ++ (e ∷ [])) h in
+    (here e a, subst (λ (z : List Event). All (Known (introduced z)) es) (append_assoc before (e ∷ []) es) k)
   where
     old : (x : Event) (n : ℕ) → is_live before n ≡ true → has n (introduced (before ++ (x ∷ es))) ≡ true
     old x n k = ap (has n) (introduced-++ before (x ∷ es)) ∙ has_left n (introduced before) (introduced (x ∷ es)) (live_introduced before n k)

@@ -1,5 +1,5 @@
 -- A list thinned so that what is left of it names only vertices that are left: clean and clip.
-use Rattle.std.proofs.Common.{◌≡◌, ℕ, suc, ◌<◌, ◌≤◌, Bool, true, false, cond, not, ◌&&◌, List, [], ◌∷◌, ◌++◌, length, None, filter, sym, refl, ap, ◌∙◌, subst, append-nil, arith}
+use Rattle.std.proofs.Common.{◌≡◌, ℕ, suc, ◌≤◌, Bool, true, false, cond, not, ◌&&◌, List, [], ◌∷◌, ◌++◌, length, None, filter, sym, refl, ap, ◌∙◌, subst, append-nil, arith}
 use Rattle.std.proofs.lemmas.Bool.{and_parts}
 use Rattle.std.proofs.lemmas.List.Elements.{filter-append, filter_agree}
 use Rattle.mesh_stream.specs.declared.event.Point.{Point}
@@ -24,7 +24,8 @@ pub record Thins (p : Event → Bool) (q : ℕ → Bool) : Type 0 where
 
 module _ (p : Event → Bool) where
   -- a view that does not see an event does not see whether it is kept
-  not_seen : {X : Type 0} (view : List Event → X) (e : Event) → ((zs : List Event) → view (e ∷ zs) ≡ view zs) → (es : List Event) → view (filter p (e ∷ es)) ≡ view (filter p es)
+  not_seen : {X : Type 0} (view : List Event → X) (e : Event) → ((zs : List Event) → view (e ∷ zs) ≡ view zs)
+      → (es : List Event) → view (filter p (e ∷ es)) ≡ view (filter p es)
   not_seen view e h es = at (p e)
     where
       at : (b : Bool) → view (cond b (e ∷ filter p es) (filter p es)) ≡ view (filter p es)
@@ -45,7 +46,8 @@ module _ (p : Event → Bool) where
   triangles_thin (Vertex l n v ∷ es) = omega (arith, not_seen triangles (Vertex l n v) (λ zs. refl) es, triangles_thin es)
   triangles_thin (Triangle l a b c ∷ es) = at (p (Triangle l a b c)) (triangles_thin es)
     where
-      at : (t : Bool) → triangles (filter p es) ≤ triangles es → triangles (cond t (Triangle l a b c ∷ filter p es) (filter p es)) ≤ suc (triangles es)
+      at : (t : Bool) → triangles (filter p es) ≤ triangles es
+          → triangles (cond t (Triangle l a b c ∷ filter p es) (filter p es)) ≤ suc (triangles es)
       at true h = omega arith
       at false h = omega arith
   triangles_thin (Finalization l i ∷ es) = omega (arith, not_seen triangles (Finalization l i) (λ zs. refl) es, triangles_thin es)
@@ -87,7 +89,8 @@ module _ (p : Event → Bool) (q : ℕ → Bool) (th : Thins p q) where
   live_fewer : (es : List Event) → length (live (filter p es)) ≤ length (live es)
   live_fewer es = subst (λ (k : ℕ). k ≤ length (live es)) (sym (ap length (live_thin es))) (kept_len q (live es))
 
-  refusal_thin : (limit : ℕ) (before : List Event) (e : Event) → p e ≡ true → refusal limit before e ≡ None → refusal limit (filter p before) e ≡ None
+  refusal_thin : (limit : ℕ) (before : List Event) (e : Event) → p e ≡ true → refusal limit before e ≡ None
+      → refusal limit (filter p before) e ≡ None
   refusal_thin limit before (Vertex l n v) y h =
       let k = vertex_ok limit before l n v h in
       let fewer = live_fewer before in
@@ -112,7 +115,8 @@ module _ (p : Event → Bool) (q : ℕ → Bool) (th : Thins p q) where
   kept_snoc_yes before e y = filter-append p before (e ∷ []) ∙ ap (λ (z : List Event). filter p before ++ z) (kept_yes p e [] y)
 
   kept_snoc_no : (before : List Event) (e : Event) → p e ≡ false → filter p (before ++ (e ∷ [])) ≡ filter p before
-  kept_snoc_no before e y = filter-append p before (e ∷ []) ∙ ap (λ (z : List Event). filter p before ++ z) (kept_no p e [] y) ∙ append-nil (filter p before)
+  kept_snoc_no before e y =
+      filter-append p before (e ∷ []) ∙ ap (λ (z : List Event). filter p before ++ z) (kept_no p e [] y) ∙ append-nil (filter p before)
 
   pub thin_accepted : (limit : ℕ) (es before : List Event) → AcceptedAfter (refusal limit) before es
       → AcceptedAfter (refusal limit) (filter p before) (filter p es)
@@ -149,7 +153,8 @@ clean_accepted limit es h = thin_accepted (is_sound (point es)) (λ n. true) (cl
 pub clean_none_live : (es : List Event) → live es ≡ [] → live (cleaned es) ≡ []
 clean_none_live es = thin_none_live (is_sound (point es)) (λ n. true) (clean_thins (point es)) es
 
-pub clip_accepted : (limit : ℕ) (inside : Point → Bool) (es : List Event) → Accepted (refusal limit) es → Accepted (refusal limit) (clipped inside es)
+pub clip_accepted : (limit : ℕ) (inside : Point → Bool) (es : List Event) → Accepted (refusal limit) es
+    → Accepted (refusal limit) (clipped inside es)
 clip_accepted limit inside es h = thin_accepted _ _ (clip_thins (λ n. inside (point es n))) limit es [] h
 
 pub clip_none_live : (inside : Point → Bool) (es : List Event) → live es ≡ [] → live (clipped inside es) ≡ []
