@@ -13,13 +13,14 @@ use Rattle.mesh_stream.proofs.Having.{above_not_has}
 use Rattle.mesh_judge.specs.Accepting.{refusal, Accepted}
 use Rattle.mesh_judge.proofs.Refusing.{vertex_ok, triangle_ok, final_ok}
 use Rattle.mesh_judge.proofs.Living.{live_introduced}
-use Rattle.mesh_judge.proofs.Knowing.{point_new}
+use Rattle.mesh_judge.proofs.Knowing.{point_stays}
 use Rattle.mesh_layer.specs.Machine.{run}
 use Rattle.mesh_rules.specs.Degenerate.{degenerate}
 use Rattle.mesh_rules.specs.Rewriting.{is_sound, cleaned, names_kept, clipped}
 use Rattle.mesh_rules.specs.Piling.{checks, cleans, clips, name_of, through}
 use Rattle.mesh_rules.proofs.Numbering.{loosely}
-use Rattle.mesh_rules.proofs.Naming.{Known, all_known, filter_agree_on, point_stays}
+use Rattle.mesh_rules.proofs.Naming.{Known, all_known, filter_agree_on}
+use Rattle.mesh_rules.proofs.Faithful.{point_new}
 use Rattle.mesh_windows.specs.Windowing.{Memory, blank}
 use Rattle.mesh_windows.specs.Working.{unmarked, no_more, only_if, point_of, note_of, check_work, clean_work, inside_by, clip_hands, clip_work, windowed}
 use Rattle.mesh_windows.proofs.Recalling.{Recalls, held_at, Notes, unmarked_recalls}
@@ -110,7 +111,7 @@ module _ (inside : Point → Bool) where
 
   inside_new : (limit : ℕ) (es : List Event) (p n : ℕ) (v : Point) → refusal limit es (Vertex p n v) ≡ None
       → is_inside (es ++ (Vertex p n v ∷ [])) n ≡ inside v
-  inside_new limit es p n v h = ap inside (point_new es p n v (above_not_has n (introduced es) (vertex_ok limit es p n v h).above))
+  inside_new limit es p n v h = ap inside (point_new es [] p n v (above_not_has n (introduced es) (vertex_ok limit es p n v h).above))
 
   clip_notes : (limit : ℕ) → Notes limit (clip_work inside) is_inside given_none
   clip_notes limit = record {

@@ -1,7 +1,5 @@
 -- Renumber by what it keeps.
-use Rattle.std.proofs.Common.{◌≡◌, ℕ, suc, ◌+◌, ◌≤◌, Bool, true, false, cond, ◌||◌, eqb, List, [], ◌∷◌, ◌++◌, map, length, None, sym, refl, ap, ◌∙◌, arith, length-append}
-use Rattle.std.specs.List.{AllByRecursion as All}
-use Rattle.std.proofs.lemmas.List.{map-append}
+use Rattle.std.proofs.Common.{◌≡◌, ℕ, suc, ◌+◌, ◌≤◌, true, List, [], ◌∷◌, ◌++◌, length, None, sym, refl, ap, ◌∙◌, arith, length-append}
 use Rattle.mesh_stream.specs.declared.event.Point.{Point}
 use Rattle.mesh_stream.specs.declared.event.Event.{Event}
 use Rattle.mesh_stream.specs.declared.event.Event.TheVariants.{Vertex, Triangle, Finalization}
@@ -9,59 +7,28 @@ use Rattle.mesh_stream.specs.Meaning.{Outcome}
 use Rattle.mesh_stream.specs.Lists.{has}
 use Rattle.mesh_stream.specs.Events.{introduced}
 use Rattle.mesh_stream.specs.Live.{is_live}
-use Rattle.mesh_stream.proofs.Having.{above_not_has, not_has_nil}
+use Rattle.mesh_stream.proofs.Having.{above_not_has}
 use Rattle.mesh_stream.proofs.Views.{introduced-++, introduced_v, introduced_t, introduced_f}
 use Rattle.mesh_judge.specs.Accepting.{refusal, Accepted}
 use Rattle.mesh_judge.proofs.Refusing.{vertex_ok, triangle_ok, final_ok}
 use Rattle.mesh_judge.proofs.Living.{live_introduced}
 use Rattle.mesh_layer.specs.Machine.{run}
-use Rattle.mesh_rules.specs.Rewriting.{renamed, count_before, position, renumbered}
+use Rattle.mesh_rules.specs.Rewriting.{renamed, position, renumbered}
 use Rattle.mesh_rules.specs.Piling.{renumbers, name_of, through}
 use Rattle.mesh_rules.proofs.Bounding.{bounded, few_introduced}
 use Rattle.mesh_rules.proofs.Numbering.{count_before_new}
-use Rattle.mesh_rules.proofs.Naming.{Known, map_agree_on}
+use Rattle.mesh_rules.proofs.Prefixes.{count_before_stays, renumbered_more}
 use Rattle.mesh_windows.specs.Windowing.{blank}
 use Rattle.mesh_windows.specs.Working.{next_number, note_of, number_by, renumber_hands, renumber_work, windowed}
 use Rattle.mesh_windows.proofs.Recalling.{Recalls, held_at, Notes, unmarked_recalls}
 use Rattle.mesh_windows.proofs.Rules.{Adds, gives_by_notes}
 use Rattle.mesh_windows.proofs.Passing.{known_own}
 
--- A list all of whose numbers are its own, with more behind it.
-
-count_before_stays : (xs ys : List ℕ) (n : ℕ) → has n xs ≡ true → count_before (xs ++ ys) n ≡ count_before xs n
-count_before_stays [] ys n h = absurd (not_has_nil n h)
-count_before_stays (x ∷ xs) ys n h = at (eqb n x) h (count_before_stays xs ys n)
-  where
-    at : (b : Bool) → (b || has n xs) ≡ true → (has n xs ≡ true → count_before (xs ++ ys) n ≡ count_before xs n)
-        → cond b 0 (suc (count_before (xs ++ ys) n)) ≡ cond b 0 (suc (count_before xs n))
-    at true k ih = refl
-    at false k ih = ap suc (ih k)
-
 pub position_stays : (xs ys : List ℕ) (n : ℕ) → has n xs ≡ true → position (xs ++ ys) n ≡ position xs n
 position_stays xs ys n h = ap suc (count_before_stays xs ys n h)
 
 pub triangle_same : (l a b c x y z : ℕ) → a ≡ x → b ≡ y → c ≡ z → Triangle l a b c ≡ Triangle l x y z
 triangle_same l a b c x y z p q r = λ i. Triangle l (p i) (q i) (r i)
-
-pub renumbered_more : (xs ys : List Event) → All (Known (introduced xs)) xs
-    → renumbered (xs ++ ys) ≡ renumbered xs ++ map (renamed (position (introduced xs ++ introduced ys))) ys
-renumbered_more xs ys k =
-    ap (λ (z : List ℕ). map (renamed (position z)) (xs ++ ys)) (introduced-++ xs ys)
-    ∙ map-append (renamed f) xs ys
-    ∙ ap (λ (z : List Event). z ++ map (renamed f) ys)
-    (map_agree_on (Known (introduced xs)) (renamed f) (renamed (position (introduced xs))) agree xs k)
-  where
-    f : ℕ → ℕ
-    f = position (introduced xs ++ introduced ys)
-
-    one : (n : ℕ) → has n (introduced xs) ≡ true → position (introduced xs ++ introduced ys) n ≡ position (introduced xs) n
-    one n h = position_stays (introduced xs) (introduced ys) n h
-
-    agree : (e : Event) → Known (introduced xs) e
-        → renamed (position (introduced xs ++ introduced ys)) e ≡ renamed (position (introduced xs)) e
-    agree (Vertex l n v) h = ap (λ z. Vertex l z v) (one n h)
-    agree (Triangle l a b c) h = triangle_same l _ _ _ _ _ _ (one a h.0) (one b h.1) (one c h.2)
-    agree (Finalization l i) h = ap (λ z. Finalization l z) (one i h)
 
 -- The numbers that are given stay below the bound.
 pub next_is : (k : ℕ) → k ≤ 100000000 → next_number k ≡ suc k

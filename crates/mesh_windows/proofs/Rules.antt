@@ -33,7 +33,7 @@ Adds {T} limit work make K =
 pub record Keeps {T : Type 0} (limit : ℕ) (work : Work T) (make : Making) (K : Memory T → List Event → Type 0) : Type 0 where
   pub knows : (m : Memory T) (es : List Event) → K m es → Knows limit m.window es
   pub begins : K blank []
-  -- each accepted event keeps it,
+  -- each accepted event keeps it
   pub goes_on : (m : Memory T) (es : List Event) (e : Event) → K m es → refusal limit es e ≡ None → K (moves_on work m e) (es ++ (e ∷ []))
   pub none : make [] ≡ []
   pub adds : Adds limit work make K
