@@ -59,14 +59,13 @@ pub renumbered_begins : (limit : ℕ) (xs ys : List Event) → Accepted (refusal
 renumbered_begins limit xs ys ok = loosely_begins limit xs ys (loosely limit xs ok)
 
 -- the vertices that triangles have named after a list
-seen_after : List ℕ → List Event → List ℕ
+abbrev pub seen_after : List ℕ → List Event → List ℕ
 seen_after seen [] = seen
 seen_after seen (Vertex l n v ∷ es) = seen_after seen es
 seen_after seen (Triangle l a b c ∷ es) = seen_after (a ∷ b ∷ c ∷ seen) es
 seen_after seen (Finalization l i ∷ es) = seen_after seen es
 
 moved-++ : (all xs ys : List Event) (seen : List ℕ) → moved all seen (xs ++ ys) ≡ moved all seen xs ++ moved all (seen_after seen xs) ys
-unfolding seen_after
 moved-++ all [] ys seen = refl
 moved-++ all (Vertex l n v ∷ xs) ys seen = moved-++ all xs ys seen
 moved-++ all (Triangle l a b c ∷ xs) ys seen =
@@ -94,7 +93,7 @@ or_none true b e = refl
 or_none false b e = sym e
 
 module _ (limit : ℕ) (xs ys : List Event) (ok : Accepted (refusal limit) xs) (goes_on : AcceptedAfter (refusal limit) xs ys) where
-  same_vertex : (n : ℕ) → has n (introduced xs) ≡ true → introduction xs n ≡ introduction (xs ++ ys) n
+  pub same_vertex : (n : ℕ) → has n (introduced xs) ≡ true → introduction xs n ≡ introduction (xs ++ ys) n
   same_vertex n h =
       sym (filter-append (introduces n) xs ys ∙ ap (λ (z : List Event). introduction xs n ++ z) (not_again limit n ys xs goes_on h) ∙ append-nil (introduction xs n))
 
@@ -119,7 +118,7 @@ module _ (limit : ℕ) (xs ys : List Event) (ok : Accepted (refusal limit) xs) (
       ap (λ b. cond b (Finalization l i ∷ []) [] ++ moved xs seen rest) (same_named i (w i (has_self i (finalized rest))))
       ∙ ap (λ (z : List Event). cond (has i (named (xs ++ ys))) (Finalization l i ∷ []) [] ++ z) (moved_alike rest seen (λ n q. w n (or_right _ _ q)) k)
 
-  moved_more : moved (xs ++ ys) [] (xs ++ ys) ≡ moved xs [] xs ++ moved (xs ++ ys) (seen_after [] xs) ys
+  pub moved_more : moved (xs ++ ys) [] (xs ++ ys) ≡ moved xs [] xs ++ moved (xs ++ ys) (seen_after [] xs) ys
   moved_more =
       moved-++ (xs ++ ys) xs ys []
       ∙ ap (λ (z : List Event). z ++ moved (xs ++ ys) (seen_after [] xs) ys) (sym (moved_alike xs [] (λ n h. h) (all_known limit xs (loosely limit xs ok))))

@@ -4,3 +4,8 @@ pub mod Rules
 -- The layers.
 pub mod Passing
 pub mod Renumbering
+-- Compact: what it hands over, by the list and at the corners of one triangle.
+pub mod Unseen
+pub mod Handed
+pub mod Corners
+pub mod Compacting
