@@ -222,7 +222,7 @@ point_stays = stays point (λ l v. v) (λ p m v es n. refl) (λ p a b c es n. re
 birthplace_stays : (xs ys : List Event) (n : ℕ) → has n (introduced xs) ≡ true → birthplace (xs ++ ys) n ≡ birthplace xs n
 birthplace_stays = stays birthplace (λ l v. l) (λ p m v es n. refl) (λ p a b c es n. refl) (λ p i es n. refl)
 
-pub point_new : (xs : List Event) (l n : ℕ) (v : Point) → has n (introduced xs) ≡ false → point (xs ++ (Vertex l n v ∷ [])) n ≡ v
+point_new : (xs : List Event) (l n : ℕ) (v : Point) → has n (introduced xs) ≡ false → point (xs ++ (Vertex l n v ∷ [])) n ≡ v
 point_new = new point (λ l v. v) (λ p m v es n. refl) (λ p a b c es n. refl) (λ p i es n. refl)
 
 birthplace_new : (xs : List Event) (l n : ℕ) (v : Point) → has n (introduced xs) ≡ false → birthplace (xs ++ (Vertex l n v ∷ [])) n ≡ l

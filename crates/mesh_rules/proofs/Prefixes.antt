@@ -21,7 +21,7 @@ use Rattle.mesh_rules.proofs.Compacting.{of_three, moved_loosely}
 use Rattle.mesh_rules.proofs.Naming.{Known, all_known, map_agree_on}
 
 -- a number's place in a list that goes on
-count_before_stays : (xs ys : List ℕ) (n : ℕ) → has n xs ≡ true → count_before (xs ++ ys) n ≡ count_before xs n
+pub count_before_stays : (xs ys : List ℕ) (n : ℕ) → has n xs ≡ true → count_before (xs ++ ys) n ≡ count_before xs n
 count_before_stays [] ys n h = absurd (not_has_nil n h)
 count_before_stays (x ∷ xs) ys n h = at (eqb n x) h (count_before_stays xs ys n)
   where
@@ -38,18 +38,22 @@ renamed_alike f g ns same (Triangle l a b c) (ha, hb, hc) =
     ∙ ap (λ z. Triangle l (g a) (g b) z) (same c hc)
 renamed_alike f g ns same (Finalization l i) h = ap (λ z. Finalization l z) (same i h)
 
-loosely_begins : (limit : ℕ) (xs ys : List Event) → Loosely limit [] xs → Begins (renumbered xs) (renumbered (xs ++ ys))
-loosely_begins limit xs ys h = (
-  map (renamed (position (introduced (xs ++ ys)))) ys,
-  map-append (renamed (position (introduced (xs ++ ys)))) xs ys
-      ∙ ap (λ (z : List Event). z ++ map (renamed (position (introduced (xs ++ ys)))) ys) (map_agree_on (Known (introduced xs)) _ _ alike xs (all_known limit xs h)),
-)
+-- A list all of whose numbers are its own, with more behind it.
+pub renumbered_more : (xs ys : List Event) → All (Known (introduced xs)) xs
+    → renumbered (xs ++ ys) ≡ renumbered xs ++ map (renamed (position (introduced xs ++ introduced ys))) ys
+renumbered_more xs ys known =
+    ap (λ (z : List ℕ). map (renamed (position z)) (xs ++ ys)) (introduced-++ xs ys) ∙ map-append (renamed f) xs ys
+    ∙ ap (λ (z : List Event). z ++ map (renamed f) ys)
+    (map_agree_on (Known (introduced xs)) (renamed f) (renamed (position (introduced xs))) (renamed_alike f (position (introduced xs)) (introduced xs) same) xs known)
   where
-    same : (n : ℕ) → has n (introduced xs) ≡ true → position (introduced (xs ++ ys)) n ≡ position (introduced xs) n
-    same n k = ap suc (ap (λ (z : List ℕ). count_before z n) (introduced-++ xs ys) ∙ count_before_stays (introduced xs) (introduced ys) n k)
+    f : ℕ → ℕ
+    f = position (introduced xs ++ introduced ys)
 
-    alike : (e : Event) → Known (introduced xs) e → renamed (position (introduced (xs ++ ys))) e ≡ renamed (position (introduced xs)) e
-    alike = renamed_alike (position (introduced (xs ++ ys))) (position (introduced xs)) (introduced xs) same
+    same : (n : ℕ) → has n (introduced xs) ≡ true → position (introduced xs ++ introduced ys) n ≡ position (introduced xs) n
+    same n k = ap suc (count_before_stays (introduced xs) (introduced ys) n k)
+
+loosely_begins : (limit : ℕ) (xs ys : List Event) → Loosely limit [] xs → Begins (renumbered xs) (renumbered (xs ++ ys))
+loosely_begins limit xs ys h = (map (renamed (position (introduced xs ++ introduced ys))) ys, renumbered_more xs ys (all_known limit xs h))
 
 pub renumbered_begins : (limit : ℕ) (xs ys : List Event) → Accepted (refusal limit) xs → Begins (renumbered xs) (renumbered (xs ++ ys))
 renumbered_begins limit xs ys ok = loosely_begins limit xs ys (loosely limit xs ok)

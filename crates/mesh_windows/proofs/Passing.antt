@@ -13,17 +13,18 @@ use Rattle.mesh_stream.proofs.Having.{above_not_has}
 use Rattle.mesh_judge.specs.Accepting.{refusal, Accepted}
 use Rattle.mesh_judge.proofs.Refusing.{vertex_ok, triangle_ok, final_ok}
 use Rattle.mesh_judge.proofs.Living.{live_introduced}
-use Rattle.mesh_judge.proofs.Knowing.{point_new}
+use Rattle.mesh_judge.proofs.Knowing.{point_stays}
 use Rattle.mesh_layer.specs.Machine.{run}
 use Rattle.mesh_rules.specs.Degenerate.{degenerate}
 use Rattle.mesh_rules.specs.Rewriting.{is_sound, cleaned, names_kept, clipped}
 use Rattle.mesh_rules.specs.Piling.{checks, cleans, clips, name_of, through}
 use Rattle.mesh_rules.proofs.Numbering.{loosely}
-use Rattle.mesh_rules.proofs.Naming.{Known, all_known, filter_agree_on, point_stays}
+use Rattle.mesh_rules.proofs.Naming.{Known, all_known, filter_agree_on}
+use Rattle.mesh_rules.proofs.Faithful.{point_new}
 use Rattle.mesh_windows.specs.Windowing.{Memory, blank}
 use Rattle.mesh_windows.specs.Working.{unmarked, no_more, only_if, point_of, note_of, check_work, clean_work, inside_by, clip_hands, clip_work, windowed}
 use Rattle.mesh_windows.proofs.Recalling.{Recalls, held_at, Notes, unmarked_recalls}
-use Rattle.mesh_windows.proofs.Rules.{gives_by_notes}
+use Rattle.mesh_windows.proofs.Rules.{Adds, gives_by_notes}
 
 abbrev pub given_none : List Event → ℕ
 given_none es = 0
@@ -49,7 +50,8 @@ plain_notes limit hands = record {
 
 pub check_whole : (limit : ℕ) (o : Outcome Event) → run (windowed limit checks) blank o.items o.stands ≡ through limit checks o
 check_whole limit =
-    gives_by_notes limit (name_of checks) check_work (λ es. es) noted_none given_none (plain_notes limit (λ m e. e ∷ [])) refl (λ m es e r h. refl)
+    gives_by_notes limit (name_of checks) check_work (λ es. es) noted_none given_none (plain_notes limit (λ m e. e ∷ [])) refl
+    (λ m es e r h. refl)
 
 -- What is filtered by a test that says the same of what is there already grows by the new event, if it passes.
 filtered_more : (P : Event → Type 0) (p q : Event → Bool) → ((x : Event) → P x → p x ≡ q x) → (es : List Event) (e : Event) → All P es
@@ -59,13 +61,14 @@ filtered_more P p q h es e k =
 
 -- Clean
 
-sound_same : (f g : ℕ → Point) (a b c : ℕ) → f a ≡ g a → f b ≡ g b → f c ≡ g c → not (degenerate (f a) (f b) (f c)) ≡ not (degenerate (g a) (g b) (g c))
+sound_same : (f g : ℕ → Point) (a b c : ℕ) → f a ≡ g a → f b ≡ g b → f c ≡ g c
+    → not (degenerate (f a) (f b) (f c)) ≡ not (degenerate (g a) (g b) (g c))
 sound_same f g a b c p q r = λ i. not (degenerate (p i) (q i) (r i))
 
-cleaned_more : (limit : ℕ) (m : Memory (Unit {0})) (es : List Event) (e : Event) → Recalls limit noted_none given_none m es → refusal limit es e ≡ None
-    → cleaned (es ++ (e ∷ [])) ≡ cleaned es ++ clean_work.hands m e
-cleaned_more limit m es e r h =
-    filtered_more (Known (introduced es)) (is_sound (point es)) (is_sound (point (es ++ (e ∷ [])))) before es e (known_own limit es r.knows.accepted)
+clean_adds : (limit : ℕ) → Adds limit clean_work cleaned (Recalls limit noted_none given_none)
+clean_adds limit m es e r h =
+    filtered_more (Known (introduced es)) (is_sound (point es)) (is_sound (point (es ++ (e ∷ [])))) before es e
+    (known_own limit es r.knows.accepted)
     ∙ ap (λ b. cleaned es ++ only_if b e) (here e h)
   where
     stays : (x : Event) (n : ℕ) → has n (introduced es) ≡ true → point (es ++ (x ∷ [])) n ≡ point es n
@@ -73,7 +76,8 @@ cleaned_more limit m es e r h =
 
     before : (x : Event) → Known (introduced es) x → is_sound (point es) x ≡ is_sound (point (es ++ (e ∷ []))) x
     before (Vertex l n v) k = refl
-    before (Triangle l a b c) k = sound_same (point es) (point (es ++ (e ∷ []))) a b c (sym (stays e a k.0)) (sym (stays e b k.1)) (sym (stays e c k.2))
+    before (Triangle l a b c) k =
+        sound_same (point es) (point (es ++ (e ∷ []))) a b c (sym (stays e a k.0)) (sym (stays e b k.1)) (sym (stays e c k.2))
     before (Finalization l i) k = refl
 
     at : (x : Event) (n : ℕ) → is_live es n ≡ true → point (es ++ (x ∷ [])) n ≡ point_of (m.window.at n)
@@ -84,11 +88,14 @@ cleaned_more limit m es e r h =
     here (Triangle l a b c) k =
         let t = triangle_ok limit es l a b c k in
         let x = Triangle l a b c in
-        sound_same (point (es ++ (Triangle l a b c ∷ []))) (λ n. point_of (m.window.at n)) a b c (at x a t.first) (at x b t.second) (at x c t.third)
+        sound_same (point (es ++ (Triangle l a b c ∷ []))) (λ n. point_of (m.window.at n)) a b c
+        (at x a t.first) (at x b t.second) (at x c t.third)
     here (Finalization l i) k = refl
 
 pub clean_whole : (limit : ℕ) (o : Outcome Event) → run (windowed limit cleans) blank o.items o.stands ≡ through limit cleans o
-clean_whole limit = gives_by_notes limit (name_of cleans) clean_work cleaned noted_none given_none (plain_notes limit (clean_work.hands)) refl (cleaned_more limit)
+clean_whole limit =
+    gives_by_notes limit (name_of cleans) clean_work cleaned noted_none given_none (plain_notes limit (clean_work.hands)) refl
+    (clean_adds limit)
 
 -- Clip
 
@@ -102,8 +109,9 @@ module _ (inside : Point → Bool) where
   inside_stays : (es : List Event) (e : Event) (n : ℕ) → is_live es n ≡ true → is_inside (es ++ (e ∷ [])) n ≡ is_inside es n
   inside_stays es e n l = ap inside (point_stays es (e ∷ []) n (live_introduced es n l))
 
-  inside_new : (limit : ℕ) (es : List Event) (p n : ℕ) (v : Point) → refusal limit es (Vertex p n v) ≡ None → is_inside (es ++ (Vertex p n v ∷ [])) n ≡ inside v
-  inside_new limit es p n v h = ap inside (point_new es p n v (above_not_has n (introduced es) (vertex_ok limit es p n v h).above))
+  inside_new : (limit : ℕ) (es : List Event) (p n : ℕ) (v : Point) → refusal limit es (Vertex p n v) ≡ None
+      → is_inside (es ++ (Vertex p n v ∷ [])) n ≡ inside v
+  inside_new limit es p n v h = ap inside (point_new es [] p n v (above_not_has n (introduced es) (vertex_ok limit es p n v h).above))
 
   clip_notes : (limit : ℕ) → Notes limit (clip_work inside) is_inside given_none
   clip_notes limit = record {
@@ -116,10 +124,10 @@ module _ (inside : Point → Bool) where
     stays = λ es p i ok h. refl;
   }
 
-  clipped_more : (limit : ℕ) (m : Memory Bool) (es : List Event) (e : Event) → Recalls limit is_inside given_none m es → refusal limit es e ≡ None
-      → clipped inside (es ++ (e ∷ [])) ≡ clipped inside es ++ clip_hands inside m e
-  clipped_more limit m es e r h =
-      filtered_more (Known (introduced es)) (names_kept (is_inside es)) (names_kept (is_inside (es ++ (e ∷ [])))) before es e (known_own limit es r.knows.accepted)
+  clip_adds : (limit : ℕ) → Adds limit (clip_work inside) (clipped inside) (Recalls limit is_inside given_none)
+  clip_adds limit m es e r h =
+      filtered_more (Known (introduced es)) (names_kept (is_inside es)) (names_kept (is_inside (es ++ (e ∷ [])))) before es e
+      (known_own limit es r.knows.accepted)
       ∙ ap (λ (z : List Event). clipped inside es ++ z) (here e h)
     where
       one : (n : ℕ) → has n (introduced es) ≡ true → is_inside es n ≡ is_inside (es ++ (e ∷ [])) n
@@ -141,5 +149,8 @@ module _ (inside : Point → Bool) where
           ap (λ z. only_if z (Triangle l a b c)) (three_same _ _ _ _ _ _ (at x a t.first) (at x b t.second) (at x c t.third))
       here (Finalization l i) k = ap (λ b. only_if b (Finalization l i)) (at (Finalization l i) i (final_ok limit es l i k))
 
-  pub clip_whole : (limit : ℕ) (o : Outcome Event) → run (windowed limit (clips inside)) blank o.items o.stands ≡ through limit (clips inside) o
-  clip_whole limit = gives_by_notes limit (name_of (clips inside)) (clip_work inside) (clipped inside) is_inside given_none (clip_notes limit) refl (clipped_more limit)
+  pub clip_whole : (limit : ℕ) (o : Outcome Event)
+      → run (windowed limit (clips inside)) blank o.items o.stands ≡ through limit (clips inside) o
+  clip_whole limit =
+      gives_by_notes limit (name_of (clips inside)) (clip_work inside) (clipped inside) is_inside given_none (clip_notes limit) refl
+      (clip_adds limit)

@@ -14,7 +14,8 @@ use Rattle.mesh_judge.proofs.Knowing.{at_live, knows_vertex, knows_triangle, kno
 use Rattle.mesh_windows.specs.Windowing.{Memory, remembers, blank, Work, moves_on}
 
 -- By the list: what is noted of a live number, and how many new numbers were given.
-pub record Recalls {T : Type 0} (limit : ℕ) (view : List Event → ℕ → T) (count : List Event → ℕ) (m : Memory T) (es : List Event) : Type 0 where
+pub record Recalls {T : Type 0} (limit : ℕ) (view : List Event → ℕ → T) (count : List Event → ℕ) (m : Memory T) (es : List Event)
+    : Type 0 where
   pub knows : Knows limit m.window es
   pub noted : (n : ℕ) (x : Live T) → m.window.at n ≡ Some x → x.note ≡ view es n
   pub given : m.given ≡ count es
@@ -45,7 +46,8 @@ module _ {T : Type 0} (limit : ℕ) (w : Window T) (es : List Event) (k : Knows 
       at true l = refl
       at false l = absurd (none-some x (sym (at_other n l) ∙ e))
 
-module _ {T : Type 0} (limit : ℕ) (view : List Event → ℕ → T) (count : List Event → ℕ) (m : Memory T) (es : List Event) (r : Recalls limit view count m es) where
+module _ {T : Type 0} (limit : ℕ) (view : List Event → ℕ → T) (count : List Event → ℕ) (m : Memory T) (es : List Event)
+    (r : Recalls limit view count m es) where
   pub held_at : (n : ℕ) → is_live es n ≡ true → m.window.at n ≡ Some (living view es n)
   held_at n l =
       let x = at_live limit m.window es r.knows n l in
@@ -59,7 +61,8 @@ module _ {T : Type 0} (limit : ℕ) (view : List Event → ℕ → T) (count : L
       at false l = at_other limit m.window es r.knows n l
 
 -- and the other way
-pub noted_by : {T : Type 0} (view : List Event → ℕ → T) (w : Window T) (es : List Event) → ((n : ℕ) → w.at n ≡ holds view es n) → (n : ℕ) (x : Live T) → w.at n ≡ Some x → x.note ≡ view es n
+pub noted_by : {T : Type 0} (view : List Event → ℕ → T) (w : Window T) (es : List Event) → ((n : ℕ) → w.at n ≡ holds view es n)
+    → (n : ℕ) (x : Live T) → w.at n ≡ Some x → x.note ≡ view es n
 noted_by {T} view w es h n x e = at (is_live es n) (sym e ∙ h n)
   where
     inside : {y z : Live T} → Some y ≡ Some z → y ≡ z
@@ -70,7 +73,8 @@ noted_by {T} view w es h n x e = at (is_live es n) (sym e ∙ h n)
     at false q = absurd (none-some x (sym q))
 
 -- A window with other notes knows the same list.
-pub knows_as : {T : Type 0} (limit : ℕ) (w u : Window T) (es : List Event) → Knows limit w es → ((n : ℕ) → origin (u.at n) ≡ origin (w.at n))
+pub knows_as : {T : Type 0} (limit : ℕ) (w u : Window T) (es : List Event) → Knows limit w es
+    → ((n : ℕ) → origin (u.at n) ≡ origin (w.at n))
     → u.live_count ≡ w.live_count → u.highest ≡ w.highest → u.triangles ≡ w.triangles → Knows limit u es
 knows_as limit w u es k a c h t = record {
   accepted = k.accepted;
@@ -96,7 +100,8 @@ pub record Notes {T : Type 0} (limit : ℕ) (work : Work T) (view : List Event �
   pub stays : (es : List Event) (p i : ℕ) → Accepted (refusal limit) es → refusal limit es (Finalization p i) ≡ None
       → count (es ++ (Finalization p i ∷ [])) ≡ count es
 
-module _ {T : Type 0} (limit : ℕ) (work : Work T) (view : List Event → ℕ → T) (count : List Event → ℕ) (f : Notes limit work view count) where
+module _ {T : Type 0} (limit : ℕ) (work : Work T) (view : List Event → ℕ → T) (count : List Event → ℕ)
+    (f : Notes limit work view count) where
   pub recalls_none : Recalls limit view count blank []
   recalls_none = record { knows = knows_none limit; noted = λ n x e. absurd (none-some x e); given = sym f.none }
 
@@ -114,7 +119,8 @@ module _ {T : Type 0} (limit : ℕ) (work : Work T) (view : List Event → ℕ �
       inside : {y z : Live T} → Some y ≡ Some z → y ≡ z
       inside q = cc
 
-      noted : (i : ℕ) (x : Live T) (b : Bool) → eqb i n ≡ b → cond b (Some new) (m.window.at i) ≡ Some x → x.note ≡ view (es ++ (Vertex p n v ∷ [])) i
+      noted : (i : ℕ) (x : Live T) (b : Bool) → eqb i n ≡ b → cond b (Some new) (m.window.at i) ≡ Some x
+          → x.note ≡ view (es ++ (Vertex p n v ∷ [])) i
       noted i x true q e =
           ap (λ (z : Live T). z.note) (sym (inside e)) ∙ ap (λ (k : ℕ). work.notes k v) r.given
           ∙ sym (f.new es p n v r.knows.accepted h) ∙ ap (view (es ++ (Vertex p n v ∷ []))) (sym (eqb-true i n q))
@@ -131,9 +137,10 @@ module _ {T : Type 0} (limit : ℕ) (work : Work T) (view : List Event → ℕ �
       noted n x false e = r.noted n x e ∙ sym (f.left es p i r.knows.accepted h n (live_from limit m.window es r.knows n x e))
 
 -- Most layers mark nothing: it is enough that their notes stay.
-pub unmarked_recalls : {T : Type 0} (limit : ℕ) (view : List Event → ℕ → T) (count : List Event → ℕ) (m : Memory T) (es : List Event) (p a b c : ℕ)
-    → Recalls limit view count m es → refusal limit es (Triangle p a b c) ≡ None
-    → ((n : ℕ) → is_live es n ≡ true → view (es ++ (Triangle p a b c ∷ [])) n ≡ view es n) → count (es ++ (Triangle p a b c ∷ [])) ≡ count es
+pub unmarked_recalls : {T : Type 0} (limit : ℕ) (view : List Event → ℕ → T) (count : List Event → ℕ) (m : Memory T) (es : List Event)
+    (p a b c : ℕ) → Recalls limit view count m es → refusal limit es (Triangle p a b c) ≡ None
+    → ((n : ℕ) → is_live es n ≡ true → view (es ++ (Triangle p a b c ∷ [])) n ≡ view es n)
+    → count (es ++ (Triangle p a b c ∷ [])) ≡ count es
     → Recalls limit view count (remembers (counted m.window) m.given) (es ++ (Triangle p a b c ∷ []))
 unmarked_recalls limit view count m es p a b c r h same stays = record {
   knows = knows_triangle limit m.window es r.knows p a b c h;
