@@ -163,5 +163,5 @@ module _ (es : List Event) where
           → (Few (xs ++ unseen xs ns) → Walked m xs ns (unseen xs ns))
           → (has n xs ≡ false → Few (xs ++ (n ∷ unseen (n ∷ xs) ns)) → Later)
           → Walked m xs (n ∷ ns) (cond b (unseen xs ns) (n ∷ unseen (n ∷ xs) ns))
-      at true h g old new = walk_numbered m xs k n here ns (unseen xs ns) h (old g)
-      at false h g old new = walk_pending m xs k n here h (few_left xs _ g) ns (new h g)
+      at true h g old later = walk_numbered m xs k n here ns (unseen xs ns) h (old g)
+      at false h g old later = walk_pending m xs k n here h (few_left xs _ g) ns (later h g)
