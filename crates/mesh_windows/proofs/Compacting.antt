@@ -1,5 +1,5 @@
 -- Compact by what it keeps: a vertex is pending until a triangle names it.
-use Rattle.std.proofs.Common.{◌≡◌, ℕ, Bool, true, false, cond, ◌||◌, List, [], ◌∷◌, ◌++◌, map, length, Some, None, Option, sym, refl, ap, ◌∙◌, subst, append-nil}
+use Rattle.std.proofs.Common.{◌≡◌, ℕ, Bool, true, false, cond, List, [], ◌∷◌, ◌++◌, map, length, Some, None, Option, sym, refl, ap, ◌∙◌, subst, append-nil}
 use Rattle.std.specs.List.{AllByRecursion as All}
 use Rattle.std.proofs.lemmas.Bool.{or_right}
 use Rattle.std.proofs.lemmas.List.{map-append}
@@ -12,7 +12,7 @@ use Rattle.mesh_stream.specs.Meaning.{Outcome}
 use Rattle.mesh_stream.proofs.Having.{has_self}
 use Rattle.mesh_judge.specs.declared.live.Live.{Live}
 use Rattle.mesh_judge.specs.Accepting.{refusal, Accepted}
-use Rattle.mesh_judge.specs.Windows.{Window, counted, origin, origin_by, origin_in, Knows}
+use Rattle.mesh_judge.specs.Windows.{counted, origin, origin_by, origin_in, Knows}
 use Rattle.mesh_judge.proofs.Refusing.{final_ok}
 use Rattle.mesh_judge.proofs.Knowing.{accepted_push, knows_triangle}
 use Rattle.mesh_layer.specs.Machine.{run}
