@@ -1,5 +1,5 @@
 -- Compact by its window: a vertex is pending until a triangle names it.
-use Rattle.std.proofs.Common.{◌≡◌, ℕ, Bool, true, false, cond, ◌||◌, List, [], ◌∷◌, ◌++◌, map, length, Some, None, Option, sym, refl, ap, ◌∙◌, subst, append-nil}
+use Rattle.std.proofs.Common.{◌≡◌, ℕ, Bool, true, false, cond, List, [], ◌∷◌, ◌++◌, map, length, Some, None, Option, sym, refl, ap, ◌∙◌, subst, append-nil}
 use Rattle.std.specs.List.{AllByRecursion as All}
 use Rattle.std.proofs.lemmas.Bool.{or_right}
 use Rattle.std.proofs.lemmas.List.{map-append}
@@ -22,12 +22,13 @@ use Rattle.mesh_rules.proofs.Having.{has_right}
 use Rattle.mesh_rules.proofs.Views.{named_f}
 use Rattle.mesh_rules.proofs.Compacting.{moved_loosely, few_moved}
 use Rattle.mesh_rules.proofs.Naming.{Known, all_known}
+use Rattle.mesh_rules.proofs.Prefixes.{renumbered_more}
 use Rattle.mesh_windows.specs.Windowing.{Memory, remembers, blank}
 use Rattle.mesh_windows.specs.Working.{note_of, mark_if, mark_all, brought_all, number_or, new_number, follows_if, compact_hands, compact_work, windowed}
-use Rattle.mesh_windows.proofs.Recalling.{Recalls, Notes, holds, living, held_at, holds_at, noted_by, knows_as}
+use Rattle.mesh_windows.proofs.Recalling.{Recalls, Notes, held_at, holds_at, noted_by, knows_as}
 use Rattle.mesh_windows.proofs.Rules.{gives_by_notes}
-use Rattle.mesh_windows.proofs.Renumbering.{position_stays, renumbered_more, triangle_same}
-use Rattle.mesh_windows.proofs.Handed.{handed_over, firsts, under, named_only, not_handed, one_more, moved_v, moved_t, handed_f, handed_t, has_t, corner_live, vertices_of, firsts_renamed, introduced_firsts}
+use Rattle.mesh_windows.proofs.Renumbering.{position_stays, triangle_same}
+use Rattle.mesh_windows.proofs.Handed.{handed_over, firsts, named_only, not_handed, one_more, moved_v, moved_t, handed_f, handed_t, has_t, corner_live, vertices_of, firsts_renamed, introduced_firsts}
 use Rattle.mesh_windows.proofs.Corners.{note_by, Few, kept, live_one, Marked, marked_at, Walked, walk}
 
 -- By the list: the number that compact gave a vertex, if it gave one, and how many it gave.

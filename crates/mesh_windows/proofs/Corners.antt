@@ -1,5 +1,5 @@
 -- The corners of one triangle: those that are pending get their numbers, one after the other.
-use Rattle.std.proofs.Common.{◌≡◌, ℕ, suc, ◌+◌, ◌≤◌, Bool, true, false, cond, ◌||◌, eqb, List, [], ◌∷◌, ◌++◌, map, length, Some, None, Option, sym, refl, ap, ◌∙◌, subst, append_assoc, append-nil, length-append, arith}
+use Rattle.std.proofs.Common.{◌≡◌, ℕ, suc, ◌≤◌, Bool, true, false, cond, ◌||◌, eqb, List, [], ◌∷◌, ◌++◌, map, length, Some, None, Option, sym, refl, ap, ◌∙◌, subst, append_assoc, append-nil, length-append, arith}
 use Rattle.std.proofs.lemmas.Bool.{eqb-true, or_right}
 use Rattle.mesh_stream.specs.declared.event.Event.{Event}
 use Rattle.mesh_stream.specs.declared.event.Event.TheVariants.{Vertex}
@@ -8,13 +8,12 @@ use Rattle.mesh_stream.specs.Events.{point, birthplace}
 use Rattle.mesh_stream.specs.Live.{is_live}
 use Rattle.mesh_stream.proofs.Having.{has_self}
 use Rattle.mesh_judge.specs.declared.live.Live.{Live}
-use Rattle.mesh_judge.specs.Windows.{Window}
 use Rattle.mesh_rules.specs.Rewriting.{position, unseen}
 use Rattle.mesh_rules.proofs.Having.{has_right}
 use Rattle.mesh_rules.proofs.Numbering.{count_before_new}
 use Rattle.mesh_rules.proofs.Moving.{has_end}
 use Rattle.mesh_windows.specs.Windowing.{Memory}
-use Rattle.mesh_windows.specs.Working.{next_number, if_unnumbered, pending, mark_if, mark, mark_all, brought_if, brought, brought_all}
+use Rattle.mesh_windows.specs.Working.{next_number, if_unnumbered, pending, mark_if, mark_all, brought_if, brought_all}
 use Rattle.mesh_windows.proofs.Recalling.{holds, living, lives_same}
 use Rattle.mesh_windows.proofs.Renumbering.{position_stays, next_is}
 use Rattle.mesh_windows.proofs.Unseen.{unseen_same}
