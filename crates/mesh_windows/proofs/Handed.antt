@@ -14,7 +14,7 @@ use Rattle.mesh_judge.specs.Accepting.{refusal, Accepted, AcceptedAfter}
 use Rattle.mesh_judge.proofs.Refusing.{vertex_ok, triangle_ok}
 use Rattle.mesh_judge.proofs.Living.{live_introduced}
 use Rattle.mesh_judge.proofs.Knowing.{accepted_push}
-use Rattle.mesh_rules.specs.Rewriting.{renamed, named, introduces, introduction, unseen, moved}
+use Rattle.mesh_rules.specs.Rewriting.{renamed, named, introduction, unseen, moved}
 use Rattle.mesh_rules.proofs.Having.{has-++, has_right}
 use Rattle.mesh_rules.proofs.Views.{named_v, named_t, named_f}
 use Rattle.mesh_rules.proofs.Introducing.{not_again}
