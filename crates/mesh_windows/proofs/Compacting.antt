@@ -111,7 +111,7 @@ module _ (limit : ℕ) (m : Memory (Option ℕ)) (es : List Event) (r : Recalls 
 
   corner : (n : ℕ) → has n corners ≡ true → f n ≡ new_number (mark_all m corners) n
   corner n q = sym
-      (ap (λ (z : Option (Live (Option ℕ))). number_or 0 (note_of None z)) (marked_at es (mark_all m corners) (handed_over es ++ us) n walked_here.marked (corner_live limit es ok nm p a b c h n q))
+      (ap (λ (z : Option (Live (Option ℕ))). number_or 0 (note_of None z)) (marked_at es (mark_all m corners) (handed_over es ++ us) walked_here.marked n (corner_live limit es ok nm p a b c h n q))
       ∙ ap (λ b. number_or 0 (cond b (Some (f n)) None)) (has_t limit es ok nm p a b c h n ∙ or_right (has n (handed_over es)) _ q))
 
   with_corners : Triangle p (f a) (f b) (f c) ≡ Triangle p (new_number (mark_all m corners) a) (new_number (mark_all m corners) b) (new_number (mark_all m corners) c)

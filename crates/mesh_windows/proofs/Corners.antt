@@ -36,59 +36,32 @@ note_other xs n m q =
     at true k = ap (λ (z : ℕ). Some z) (position_stays xs (n ∷ []) m k)
     at false k = refl
 
--- no more numbers are given than there are vertices
+-- No more numbers are given than vertices may have.
 abbrev pub Few : List ℕ → Type 0
 Few xs = length xs ≤ 100000000
 
 few_left : (xs ys : List ℕ) → Few (xs ++ ys) → Few xs
 few_left xs ys f = let e = length-append xs ys in omega arith
 
-module _ (es : List Event) where
-  -- what is at each number
-  abbrev pub kept : List ℕ → ℕ → Option (Live (Option ℕ))
-  kept xs n = holds (λ z. note_by xs) es n
+-- the first of the unseen numbers gets its number before the others
+unseen_next : (n : ℕ) (ns xs : List ℕ) → unseen (xs ++ (n ∷ [])) ns ≡ unseen (n ∷ xs) ns
+unseen_next n ns xs = unseen_same ns (xs ++ (n ∷ [])) (n ∷ xs) (λ m. has_end m n xs)
 
+few_next : (n : ℕ) (ns xs : List ℕ) → Few (xs ++ (n ∷ unseen (n ∷ xs) ns)) → Few ((xs ++ (n ∷ [])) ++ unseen (xs ++ (n ∷ [])) ns)
+few_next n ns xs f =
+    subst Few (sym (append_assoc xs (n ∷ []) (unseen (xs ++ (n ∷ [])) ns) ∙ ap (λ (z : List ℕ). xs ++ (n ∷ z)) (unseen_next n ns xs))) f
+
+module _ (es : List Event) where
+  -- what is at each number after the list, once the vertices xs got their numbers
   abbrev pub live_one : List ℕ → ℕ → Live (Option ℕ)
   live_one xs n = living (λ z. note_by xs) es n
 
-  -- A memory after the list, once the vertices xs got their numbers.
+  abbrev pub kept : List ℕ → ℕ → Option (Live (Option ℕ))
+  kept xs n = holds (λ z. note_by xs) es n
+
   pub record Marked (m : Memory (Option ℕ)) (xs : List ℕ) : Type 0 where
     pub at : (n : ℕ) → m.window.at n ≡ kept xs n
     pub given : m.given ≡ length xs
-
-  pub marked_at : (m : Memory (Option ℕ)) (xs : List ℕ) (n : ℕ) → Marked m xs → is_live es n ≡ true → m.window.at n ≡ Some (live_one xs n)
-  marked_at m xs n k l = k.at n ∙ ap (λ b. cond b (Some (live_one xs n)) None) l
-
-  pending_by : (m : Memory (Option ℕ)) (xs : List ℕ) (n : ℕ) → Marked m xs → is_live es n ≡ true → (b : Bool) → has n xs ≡ b
-      → pending (m.window.at n) ≡ if_unnumbered (live_one xs n) (cond b (Some (position xs n)) None)
-  pending_by m xs n k l b h = ap pending (marked_at m xs n k l) ∙ ap (λ b. if_unnumbered (live_one xs n) (cond b (Some (position xs n)) None)) h
-
-  next_given : (m : Memory (Option ℕ)) (xs : List ℕ) → Marked m xs → Few xs → next_number m.given ≡ suc (length xs)
-  next_given m xs k few = ap next_number k.given ∙ next_is (length xs) few
-
-  -- the memory with one corner more marked
-  abbrev marking : Memory (Option ℕ) → List ℕ → ℕ → Memory (Option ℕ)
-  marking m xs n = mark_if m n (Some (live_one xs n))
-
-  marked_one : (m : Memory (Option ℕ)) (xs : List ℕ) (n : ℕ) → Marked m xs → is_live es n ≡ true → has n xs ≡ false → Few xs → Marked (marking m xs n) (xs ++ (n ∷ []))
-  marked_one m xs n k l h few = record {
-    at = λ i. at i (eqb i n) refl;
-    given = let e = next_given m xs k few in let q = length-append xs (n ∷ []) in omega arith;
-  }
-    where
-      new : Live (Option ℕ)
-      new = record { place = birthplace es n; at = point es n; note = Some (next_number m.given) }
-
-      new_is : new ≡ live_one (xs ++ (n ∷ [])) n
-      new_is = lives_same _ _ refl refl (ap (λ (z : ℕ). Some z) (next_given m xs k few) ∙ sym (note_new xs n h))
-
-      at : (i : ℕ) (b : Bool) → eqb i n ≡ b → cond b (Some new) (m.window.at i) ≡ kept (xs ++ (n ∷ [])) i
-      at i true q =
-          ap (λ (z : Live (Option ℕ)). Some z) new_is ∙ sym (ap (λ b. cond b (Some (live_one (xs ++ (n ∷ [])) n)) None) l)
-          ∙ ap (kept (xs ++ (n ∷ []))) (sym (eqb-true i n q))
-      at i false q =
-          k.at i
-          ∙ ap (λ (t : Option ℕ). cond (is_live es i) (Some (record { place = birthplace es i; at = point es i; note = t })) None) (sym (note_other xs n i q))
 
   -- Marking the corners ns brings the vertices us, which are those without numbers.
   pub record Walked (m : Memory (Option ℕ)) (xs ns us : List ℕ) : Type 0 where
@@ -100,42 +73,82 @@ module _ (es : List Event) where
     marked : Marked (mark_all (mark_if m n o) ns) (xs ++ us)
     brings : brought_if m o ++ brought_all (mark_if m n o) ns ≡ map (under es (position (xs ++ us))) us
 
-  looked_up : (m : Memory (Option ℕ)) (xs : List ℕ) (n : ℕ) (ns us : List ℕ) (o : Option (Live (Option ℕ))) → pending (m.window.at n) ≡ o → WalkedBy m xs n ns us o → Walked m xs (n ∷ ns) us
-  looked_up m xs n ns us o e w =
-      let v : WalkedBy m xs n ns us (pending (m.window.at n)) = subst (WalkedBy m xs n ns us) (sym e) w in
-      record { marked = v.marked; brings = v.brings }
+  module _ (m : Memory (Option ℕ)) (xs : List ℕ) (k : Marked m xs) where
+    pub marked_at : (n : ℕ) → is_live es n ≡ true → m.window.at n ≡ Some (live_one xs n)
+    marked_at n l = k.at n ∙ ap (λ b. cond b (Some (live_one xs n)) None) l
 
-  few_next : (n : ℕ) (ns xs : List ℕ) → Few (xs ++ (n ∷ unseen (n ∷ xs) ns)) → Few ((xs ++ (n ∷ [])) ++ unseen (xs ++ (n ∷ [])) ns)
-  few_next n ns xs f =
-      subst Few (sym (append_assoc xs (n ∷ []) (unseen (xs ++ (n ∷ [])) ns)
-      ∙ ap (λ (z : List ℕ). xs ++ (n ∷ z)) (unseen_same ns (xs ++ (n ∷ [])) (n ∷ xs) (λ m. has_end m n xs)))) f
+    next_given : Few xs → next_number m.given ≡ suc (length xs)
+    next_given few = ap next_number k.given ∙ next_is (length xs) few
 
-  -- a corner that is pending
-  module _ (m : Memory (Option ℕ)) (xs : List ℕ) (n : ℕ) (ns : List ℕ) (k : Marked m xs) (l : is_live es n ≡ true) (h : has n xs ≡ false) (few : Few xs) where
-    first_brought : (us : List ℕ) → Walked (marking m xs n) (xs ++ (n ∷ [])) ns us → WalkedBy m xs n ns (n ∷ us) (Some (live_one xs n))
-    first_brought us w = record {
-      marked = subst (Marked (mark_all (marking m xs n) ns)) shift w.marked;
-      brings =
-          ap (λ (z : ℕ). Vertex (birthplace es n) z (point es n) ∷ brought_all (marking m xs n) ns) (next_given m xs k few ∙ ap suc (sym (count_before_new xs us n h)))
-          ∙ ap (λ (z : List Event). under es (position (xs ++ (n ∷ us))) n ∷ z) (w.brings ∙ ap (λ (z : List ℕ). map (under es (position z)) us) shift);
-    }
-      where
-        shift : (xs ++ (n ∷ [])) ++ us ≡ xs ++ (n ∷ us)
-        shift = append_assoc xs (n ∷ []) us
+    -- a corner
+    module _ (n : ℕ) (l : is_live es n ≡ true) where
+      pending_by : (b : Bool) → has n xs ≡ b → pending (m.window.at n) ≡ if_unnumbered (live_one xs n) (cond b (Some (position xs n)) None)
+      pending_by b h =
+          ap pending (marked_at n l) ∙ ap (λ b. if_unnumbered (live_one xs n) (cond b (Some (position xs n)) None)) h
 
-    pending_walk : Walked (marking m xs n) (xs ++ (n ∷ [])) ns (unseen (xs ++ (n ∷ [])) ns) → Walked m xs (n ∷ ns) (n ∷ unseen (n ∷ xs) ns)
-    pending_walk w =
-        looked_up m xs n ns (n ∷ unseen (n ∷ xs) ns) (Some (live_one xs n)) (pending_by m xs n k l false h)
-        (first_brought (unseen (n ∷ xs) ns)
-        (subst (Walked (marking m xs n) (xs ++ (n ∷ [])) ns) (unseen_same ns (xs ++ (n ∷ [])) (n ∷ xs) (λ i. has_end i n xs)) w))
+      looked_up : (ns us : List ℕ) (o : Option (Live (Option ℕ))) → pending (m.window.at n) ≡ o → WalkedBy m xs n ns us o → Walked m xs (n ∷ ns) us
+      looked_up ns us o e w =
+          let v : WalkedBy m xs n ns us (pending (m.window.at n)) = subst (WalkedBy m xs n ns us) (sym e) w in
+          record { marked = v.marked; brings = v.brings }
 
-  numbered_walk : (m : Memory (Option ℕ)) (xs : List ℕ) (n : ℕ) (ns : List ℕ) → Marked m xs → is_live es n ≡ true → has n xs ≡ true → Walked m xs ns (unseen xs ns) → Walked m xs (n ∷ ns) (unseen xs ns)
-  numbered_walk m xs n ns k l h w = looked_up m xs n ns (unseen xs ns) None (pending_by m xs n k l true h) (record { marked = w.marked; brings = w.brings })
+      -- that has its number
+      walk_numbered : (ns us : List ℕ) → has n xs ≡ true → Walked m xs ns us → Walked m xs (n ∷ ns) us
+      walk_numbered ns us h w = looked_up ns us None (pending_by true h) (record { marked = w.marked; brings = w.brings })
 
-  pub walk : (ns xs : List ℕ) (m : Memory (Option ℕ)) → ((n : ℕ) → has n ns ≡ true → is_live es n ≡ true) → Few (xs ++ unseen xs ns) → Marked m xs → Walked m xs ns (unseen xs ns)
+      -- that is pending
+      module _ (h : has n xs ≡ false) (few : Few xs) where
+        abbrev marking : Memory (Option ℕ)
+        marking = mark_if m n (Some (live_one xs n))
+
+        new : Live (Option ℕ)
+        new = record { place = birthplace es n; at = point es n; note = Some (next_number m.given) }
+
+        new_is : new ≡ live_one (xs ++ (n ∷ [])) n
+        unfolding new
+        new_is = lives_same _ _ refl refl (ap (λ (z : ℕ). Some z) (next_given few) ∙ sym (note_new xs n h))
+
+        at_one : (i : ℕ) (b : Bool) → eqb i n ≡ b → cond b (Some new) (m.window.at i) ≡ kept (xs ++ (n ∷ [])) i
+        at_one i true q =
+            ap (λ (z : Live (Option ℕ)). Some z) new_is ∙ sym (ap (λ b. cond b (Some (live_one (xs ++ (n ∷ [])) n)) None) l)
+            ∙ ap (kept (xs ++ (n ∷ []))) (sym (eqb-true i n q))
+        at_one i false q = k.at i ∙ ap with_note (sym (note_other xs n i q))
+          where
+            with_note : Option ℕ → Option (Live (Option ℕ))
+            with_note t = cond (is_live es i) (Some (record { place = birthplace es i; at = point es i; note = t })) None
+
+        marked_one : Marked marking (xs ++ (n ∷ []))
+        unfolding new
+        marked_one = record {
+          at = λ i. at_one i (eqb i n) refl;
+          given = let e = next_given few in let q = length-append xs (n ∷ []) in omega arith;
+        }
+
+        first_brought : (ns us : List ℕ) → Walked marking (xs ++ (n ∷ [])) ns us → WalkedBy m xs n ns (n ∷ us) (Some (live_one xs n))
+        first_brought ns us w = record {
+          marked = subst (Marked (mark_all marking ns)) shift w.marked;
+          brings =
+              ap (λ (z : ℕ). Vertex (birthplace es n) z (point es n) ∷ brought_all marking ns)
+              (next_given few ∙ ap suc (sym (count_before_new xs us n h)))
+              ∙ ap (λ (z : List Event). under es (position (xs ++ (n ∷ us))) n ∷ z)
+              (w.brings ∙ ap (λ (z : List ℕ). map (under es (position z)) us) shift);
+        }
+          where
+            shift : (xs ++ (n ∷ [])) ++ us ≡ xs ++ (n ∷ us)
+            shift = append_assoc xs (n ∷ []) us
+
+        walk_pending : (ns : List ℕ) → Walked marking (xs ++ (n ∷ [])) ns (unseen (xs ++ (n ∷ [])) ns) → Walked m xs (n ∷ ns) (n ∷ unseen (n ∷ xs) ns)
+        walk_pending ns w =
+            looked_up ns (n ∷ unseen (n ∷ xs) ns) (Some (live_one xs n)) (pending_by false h)
+            (first_brought ns (unseen (n ∷ xs) ns) (subst (Walked marking (xs ++ (n ∷ [])) ns) (unseen_next n ns xs) w))
+
+  abbrev Alive : List ℕ → Type 0
+  Alive ns = (n : ℕ) → has n ns ≡ true → is_live es n ≡ true
+
+  pub walk : (ns xs : List ℕ) (m : Memory (Option ℕ)) → Alive ns → Few (xs ++ unseen xs ns) → Marked m xs → Walked m xs ns (unseen xs ns)
   walk [] xs m l f k = record { marked = subst (Marked m) (sym (append-nil xs)) k; brings = refl }
   walk (n ∷ ns) xs m l f k =
-      at (has n xs) refl f (λ g. walk ns xs m rest g k) (λ h g. walk ns (xs ++ (n ∷ [])) (marking m xs n) rest (few_next n ns xs g) (marked_one m xs n k here h (few_left xs _ g)))
+      at (has n xs) refl f (λ g. walk ns xs m rest g k)
+      (λ h g. walk ns (xs ++ (n ∷ [])) (mark_if m n (Some (live_one xs n))) rest (few_next n ns xs g) (marked_one m xs k n here h (few_left xs _ g)))
     where
       here : is_live es n ≡ true
       here = l n (has_self n ns)
@@ -143,8 +156,12 @@ module _ (es : List Event) where
       rest : (i : ℕ) → has i ns ≡ true → is_live es i ≡ true
       rest i q = l i (or_right _ _ q)
 
-      at : (b : Bool) → has n xs ≡ b → Few (xs ++ cond b (unseen xs ns) (n ∷ unseen (n ∷ xs) ns)) → (Few (xs ++ unseen xs ns) → Walked m xs ns (unseen xs ns))
-          → (has n xs ≡ false → Few (xs ++ (n ∷ unseen (n ∷ xs) ns)) → Walked (marking m xs n) (xs ++ (n ∷ [])) ns (unseen (xs ++ (n ∷ [])) ns))
+      Later : Type 0
+      Later = Walked (mark_if m n (Some (live_one xs n))) (xs ++ (n ∷ [])) ns (unseen (xs ++ (n ∷ [])) ns)
+
+      at : (b : Bool) → has n xs ≡ b → Few (xs ++ cond b (unseen xs ns) (n ∷ unseen (n ∷ xs) ns))
+          → (Few (xs ++ unseen xs ns) → Walked m xs ns (unseen xs ns))
+          → (has n xs ≡ false → Few (xs ++ (n ∷ unseen (n ∷ xs) ns)) → Later)
           → Walked m xs (n ∷ ns) (cond b (unseen xs ns) (n ∷ unseen (n ∷ xs) ns))
-      at true h g old new = numbered_walk m xs n ns k here h (old g)
-      at false h g old new = pending_walk m xs n ns k here h (few_left xs _ g) (new h g)
+      at true h g old new = walk_numbered m xs k n here ns (unseen xs ns) h (old g)
+      at false h g old new = walk_pending m xs k n here h (few_left xs _ g) ns (new h g)
