@@ -44,7 +44,8 @@ pub renumbered_more : (xs ys : List Event) → All (Known (introduced xs)) xs
 renumbered_more xs ys known =
     ap (λ (z : List ℕ). map (renamed (position z)) (xs ++ ys)) (introduced-++ xs ys) ∙ map-append (renamed f) xs ys
     ∙ ap (λ (z : List Event). z ++ map (renamed f) ys)
-    (map_agree_on (Known (introduced xs)) (renamed f) (renamed (position (introduced xs))) (renamed_alike f (position (introduced xs)) (introduced xs) same) xs known)
+    (map_agree_on (Known (introduced xs)) (renamed f) (renamed (position (introduced xs)))
+    (renamed_alike f (position (introduced xs)) (introduced xs) same) xs known)
   where
     f : ℕ → ℕ
     f = position (introduced xs ++ introduced ys)

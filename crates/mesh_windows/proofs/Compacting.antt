@@ -88,7 +88,9 @@ module _ (limit : ℕ) (m : Memory (Option ℕ)) (es : List Event) (r : Recalls 
     handed_more = handed_t limit es ok nm p a b c h
 
     few : Few handed
-    few = subst Few handed_more (few_moved limit (es ++ (Triangle p a b c ∷ [])) (accepted_push (refusal limit) es [] (Triangle p a b c) ok h))
+    few =
+        subst Few handed_more
+        (few_moved limit (es ++ (Triangle p a b c ∷ [])) (accepted_push (refusal limit) es [] (Triangle p a b c) ok h))
 
     walked : (k : Memory (Option ℕ)) → Marked es k (handed_over es) → Walked es k (handed_over es) corners (firsts es a b c)
     walked k w = walk es corners (handed_over es) k (corner_live limit es ok nm p a b c h) few w
@@ -110,17 +112,22 @@ module _ (limit : ℕ) (m : Memory (Option ℕ)) (es : List Event) (r : Recalls 
 
     recalls_marked : Recalls limit view count (mark_all next corners) (es ++ (Triangle p a b c ∷ []))
     recalls_marked = record {
-      knows = knows_marked limit next corners (es ++ (Triangle p a b c ∷ [])) (knows_triangle limit m.window es r.knows p a b c h) same_origin;
+      knows =
+          knows_marked limit next corners (es ++ (Triangle p a b c ∷ [])) (knows_triangle limit m.window es r.knows p a b c h) same_origin;
       noted = λ n x e.
           noted_by (λ z. note_by handed) (mark_all next corners).window es walked_next.marked.at n x e
           ∙ ap (λ (z : List ℕ). note_by z n) (sym handed_more);
       given = walked_next.marked.given ∙ sym (ap length handed_more);
     }
 
+    note_corner : (n : ℕ) → has n corners ≡ true → note_of None ((mark_all m corners).window.at n) ≡ Some (position handed n)
+    note_corner n q =
+        let alive = corner_live limit es ok nm p a b c h n q in
+        ap (note_of None) (marked_at es (mark_all m corners) handed walked_here.marked n alive)
+        ∙ ap (λ b. cond b (Some (position handed n)) None) (has_t limit es ok nm p a b c h n ∙ or_right (has n (handed_over es)) _ q)
+
     marked_corner : (n : ℕ) → has n corners ≡ true → position handed n ≡ new_number (mark_all m corners) n
-    marked_corner n q =
-        sym (ap (λ (z : Option (Live (Option ℕ))). number_or 0 (note_of None z)) (marked_at es (mark_all m corners) handed walked_here.marked n (corner_live limit es ok nm p a b c h n q))
-        ∙ ap (λ b. number_or 0 (cond b (Some (position handed n)) None)) (has_t limit es ok nm p a b c h n ∙ or_right (has n (handed_over es)) _ q))
+    marked_corner n q = sym (ap (number_or 0) (note_corner n q))
 
     new_corners : renamed (position handed) (Triangle p a b c) ∷ [] ≡ with_new_corners p a b c (mark_all m corners)
     new_corners =
