@@ -201,11 +201,12 @@ module _ (limit : ℕ) (all : List Event) (ok : Accepted (refusal limit) all) wh
   moved_ends : Ends all (moved all [] all)
   moved_ends = (leads_loosely limit (Ends all) (moved all [] all) [] moved_leads).1
 
+  pub few_moved : length (introduced (moved all [] all)) ≤ 100000000
+  few_moved = let few = few_introduced limit all (bounded limit all ok) in omega (arith, moved_ends.1)
+
 -- Compact keeps a list accepted, under the same limit, and leaves no vertex live that was not.
 pub compacted_accepted : (limit : ℕ) (es : List Event) → Accepted (refusal limit) es → Accepted (refusal limit) (compacted es)
-compacted_accepted limit es ok =
-    let few = few_introduced limit es (bounded limit es ok) in
-    loosely_renumbered limit (moved es [] es) (omega (arith, (moved_ends limit es ok).1)) (moved_loosely limit es ok)
+compacted_accepted limit es ok = loosely_renumbered limit (moved es [] es) (few_moved limit es ok) (moved_loosely limit es ok)
 
 pub compacted_none_live : (limit : ℕ) (es : List Event) → Accepted (refusal limit) es → live es ≡ [] → live (compacted es) ≡ []
 compacted_none_live limit es ok none =

@@ -21,7 +21,7 @@ use Rattle.mesh_rules.proofs.Compacting.{of_three, moved_loosely}
 use Rattle.mesh_rules.proofs.Naming.{Known, all_known, map_agree_on}
 
 -- a number's place in a list that goes on
-count_before_stays : (xs ys : List ℕ) (n : ℕ) → has n xs ≡ true → count_before (xs ++ ys) n ≡ count_before xs n
+pub count_before_stays : (xs ys : List ℕ) (n : ℕ) → has n xs ≡ true → count_before (xs ++ ys) n ≡ count_before xs n
 count_before_stays [] ys n h = absurd (not_has_nil n h)
 count_before_stays (x ∷ xs) ys n h = at (eqb n x) h (count_before_stays xs ys n)
   where
@@ -38,31 +38,35 @@ renamed_alike f g ns same (Triangle l a b c) (ha, hb, hc) =
     ∙ ap (λ z. Triangle l (g a) (g b) z) (same c hc)
 renamed_alike f g ns same (Finalization l i) h = ap (λ z. Finalization l z) (same i h)
 
-loosely_begins : (limit : ℕ) (xs ys : List Event) → Loosely limit [] xs → Begins (renumbered xs) (renumbered (xs ++ ys))
-loosely_begins limit xs ys h = (
-  map (renamed (position (introduced (xs ++ ys)))) ys,
-  map-append (renamed (position (introduced (xs ++ ys)))) xs ys
-      ∙ ap (λ (z : List Event). z ++ map (renamed (position (introduced (xs ++ ys)))) ys) (map_agree_on (Known (introduced xs)) _ _ alike xs (all_known limit xs h)),
-)
+-- A list all of whose numbers are its own, with more behind it.
+pub renumbered_more : (xs ys : List Event) → All (Known (introduced xs)) xs
+    → renumbered (xs ++ ys) ≡ renumbered xs ++ map (renamed (position (introduced xs ++ introduced ys))) ys
+renumbered_more xs ys known =
+    ap (λ (z : List ℕ). map (renamed (position z)) (xs ++ ys)) (introduced-++ xs ys) ∙ map-append (renamed f) xs ys
+    ∙ ap (λ (z : List Event). z ++ map (renamed f) ys)
+    (map_agree_on (Known (introduced xs)) (renamed f) (renamed (position (introduced xs)))
+    (renamed_alike f (position (introduced xs)) (introduced xs) same) xs known)
   where
-    same : (n : ℕ) → has n (introduced xs) ≡ true → position (introduced (xs ++ ys)) n ≡ position (introduced xs) n
-    same n k = ap suc (ap (λ (z : List ℕ). count_before z n) (introduced-++ xs ys) ∙ count_before_stays (introduced xs) (introduced ys) n k)
+    f : ℕ → ℕ
+    f = position (introduced xs ++ introduced ys)
 
-    alike : (e : Event) → Known (introduced xs) e → renamed (position (introduced (xs ++ ys))) e ≡ renamed (position (introduced xs)) e
-    alike = renamed_alike (position (introduced (xs ++ ys))) (position (introduced xs)) (introduced xs) same
+    same : (n : ℕ) → has n (introduced xs) ≡ true → position (introduced xs ++ introduced ys) n ≡ position (introduced xs) n
+    same n k = ap suc (count_before_stays (introduced xs) (introduced ys) n k)
+
+loosely_begins : (limit : ℕ) (xs ys : List Event) → Loosely limit [] xs → Begins (renumbered xs) (renumbered (xs ++ ys))
+loosely_begins limit xs ys h = (map (renamed (position (introduced xs ++ introduced ys))) ys, renumbered_more xs ys (all_known limit xs h))
 
 pub renumbered_begins : (limit : ℕ) (xs ys : List Event) → Accepted (refusal limit) xs → Begins (renumbered xs) (renumbered (xs ++ ys))
 renumbered_begins limit xs ys ok = loosely_begins limit xs ys (loosely limit xs ok)
 
 -- the vertices that triangles have named after a list
-seen_after : List ℕ → List Event → List ℕ
+abbrev pub seen_after : List ℕ → List Event → List ℕ
 seen_after seen [] = seen
 seen_after seen (Vertex l n v ∷ es) = seen_after seen es
 seen_after seen (Triangle l a b c ∷ es) = seen_after (a ∷ b ∷ c ∷ seen) es
 seen_after seen (Finalization l i ∷ es) = seen_after seen es
 
 moved-++ : (all xs ys : List Event) (seen : List ℕ) → moved all seen (xs ++ ys) ≡ moved all seen xs ++ moved all (seen_after seen xs) ys
-unfolding seen_after
 moved-++ all [] ys seen = refl
 moved-++ all (Vertex l n v ∷ xs) ys seen = moved-++ all xs ys seen
 moved-++ all (Triangle l a b c ∷ xs) ys seen =
@@ -90,7 +94,7 @@ or_none true b e = refl
 or_none false b e = sym e
 
 module _ (limit : ℕ) (xs ys : List Event) (ok : Accepted (refusal limit) xs) (goes_on : AcceptedAfter (refusal limit) xs ys) where
-  same_vertex : (n : ℕ) → has n (introduced xs) ≡ true → introduction xs n ≡ introduction (xs ++ ys) n
+  pub same_vertex : (n : ℕ) → has n (introduced xs) ≡ true → introduction xs n ≡ introduction (xs ++ ys) n
   same_vertex n h =
       sym (filter-append (introduces n) xs ys ∙ ap (λ (z : List Event). introduction xs n ++ z) (not_again limit n ys xs goes_on h) ∙ append-nil (introduction xs n))
 
@@ -115,7 +119,7 @@ module _ (limit : ℕ) (xs ys : List Event) (ok : Accepted (refusal limit) xs) (
       ap (λ b. cond b (Finalization l i ∷ []) [] ++ moved xs seen rest) (same_named i (w i (has_self i (finalized rest))))
       ∙ ap (λ (z : List Event). cond (has i (named (xs ++ ys))) (Finalization l i ∷ []) [] ++ z) (moved_alike rest seen (λ n q. w n (or_right _ _ q)) k)
 
-  moved_more : moved (xs ++ ys) [] (xs ++ ys) ≡ moved xs [] xs ++ moved (xs ++ ys) (seen_after [] xs) ys
+  pub moved_more : moved (xs ++ ys) [] (xs ++ ys) ≡ moved xs [] xs ++ moved (xs ++ ys) (seen_after [] xs) ys
   moved_more =
       moved-++ (xs ++ ys) xs ys []
       ∙ ap (λ (z : List Event). z ++ moved (xs ++ ys) (seen_after [] xs) ys) (sym (moved_alike xs [] (λ n h. h) (all_known limit xs (loosely limit xs ok))))
