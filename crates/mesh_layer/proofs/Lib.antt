@@ -1,4 +1,5 @@
 -- The law on runs.
+pub mod Asking
 pub mod Handed
 pub mod Ending
 pub mod Keeping

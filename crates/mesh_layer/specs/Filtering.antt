@@ -1,9 +1,10 @@
 -- What a filter does to the outcome of the stage below.
-use Rattle.std.specs.Prelude.{◌≡◌, List, [], ◌++◌, Some, None, Option, Ok, Err, Result}
+use Rattle.std.specs.Prelude.{◌≡◌, ℕ, List, [], ◌∷◌, ◌++◌, Some, None, Option, Ok, Err, Result}
 use Rattle.mesh_stream.specs.declared.fault.Fault.{Fault}
 use Rattle.mesh_stream.specs.declared.stage.Standing.{Standing}
-use Rattle.mesh_stream.specs.declared.stage.Standing.TheVariants.{Faulty}
-use Rattle.mesh_stream.specs.Meaning.{Outcome, outcome, prepend, Begins, IsWaiting}
+use Rattle.mesh_stream.specs.declared.stage.Standing.TheVariants.{Waiting, Faulty}
+use Rattle.mesh_stream.specs.Meaning.{Mark, Meaning, Outcome, outcome, prepend, Begins, IsWaiting}
+use Rattle.mesh_stream.specs.Runs.{prepends}
 
 -- What makes of every lawful stage a lawful one.
 pub record Filtering {I O : Type 0} (F : Outcome I → Outcome O) : Type 0 where
@@ -30,3 +31,10 @@ module _ {I O H : Type 0} (empty : H) (F : H → Outcome I → Outcome O) where
   -- Having handed over all, with no item below, it stands so.
   abbrev pub StandsSo : Standing → Standing → Type 0
   StandsSo below s = F empty (outcome [] below) ≡ outcome [] s
+
+-- What the layer took of the stage below, whose meaning was G and is H now; F is what it made of what was still to come.
+pub record Asks {I O : Type 0} (F : Outcome I → Outcome O) (G H : Meaning I) : Type 0 where
+  pub taken : List I
+  pub left : (t : List ℕ) (m : Mark) → G t m ≡ prepends taken (H t m)
+  -- It asks only when it has nothing to hand over and is not at fault: each beginning of these, but all of them, left it waiting.
+  pub needed : (xs ys : List I) (y : I) → taken ≡ xs ++ (y ∷ ys) → F (outcome xs Waiting) ≡ outcome [] Waiting

@@ -1,5 +1,6 @@
 -- What a layer means, and that a filter over a lawful stage is a lawful stage.
 use Rattle.mesh_stream.specs.declared.stage.Stage.{Ghosts as StageGhosts}
+use Rattle.mesh_stream.specs.Meaning.{Outcome}
 use Rattle.mesh_stream.specs.Runs.{View, viewed}
 use Rattle.mesh_layer.specs.declared.filter.Filter.{Ghosts as FilterGhosts}
 use Rattle.mesh_layer.specs.declared.layer.Layer.{Layer}
@@ -9,8 +10,12 @@ use Rattle.mesh_layer.specs.LayeringLaw.{unless_faulty, layered_lawful, unless_f
 abbrev pub seen : {S I : Type 0} → StageGhosts S I → S → View I
 seen stage s = viewed (stage.port s) (stage.meaning s) (stage.lawful s)
 
--- How a layer is seen: it takes text as the stage below does, and its filter rewrites what that gives.
+-- What a layer makes of what is still to come from below.
+abbrev pub makes : {S F I O R : Type 0} → FilterGhosts F I O R → Layer S F I O R → Outcome I → Outcome O
+makes filter l = unless_faulty l.fault (filter.rewrites l.filter l.rest)
+
+-- How a layer is seen: it takes text as the stage below does, and makes what it does of what that gives.
 abbrev pub seen_through : {S F I O R : Type 0} → StageGhosts S I → FilterGhosts F I O R → Layer S F I O R → View O
 seen_through stage filter l = viewed (stage.port l.below)
-    (λ t m. unless_faulty l.fault (filter.rewrites l.filter l.rest) (stage.meaning l.below t m))
+    (λ t m. makes filter l (stage.meaning l.below t m))
     (layered_lawful (unless_faulty_filters l.fault (filter.filters l.filter l.rest)) (stage.lawful l.below))

@@ -1,5 +1,6 @@
-ghost use Rattle.std.specs.Prelude.{◌≡◌};
-ghost use Rattle.mesh_stream.specs.Meaning.{Outcome};
+ghost use Rattle.std.specs.Prelude.{◌≡◌, []};
+ghost use Rattle.mesh_stream.specs.declared.stage.Standing.TheVariants.{Waiting};
+ghost use Rattle.mesh_stream.specs.Meaning.{Outcome, outcome};
 ghost use Rattle.mesh_layer.specs.Filtering.{Filtering, Gives, Takes, StandsSo};
 
 use mesh_stream::fault::Fault;
@@ -22,6 +23,9 @@ pub trait Filter {
 
     // What every filter keeps.
     ghost filters: { (f : Self) (rest : Self.Rest) → Filtering (rewrites f rest) };
+
+    // Having handed over all, it waits over a stage that waits.
+    ghost waits: { (f : Self) → rewrites f empty (outcome [] Waiting) ≡ outcome [] Waiting };
 
     // The rest before the first item.
     fn no_rest(&self) -> Self::Rest

@@ -1,11 +1,13 @@
 use crate::filter::Filter;
 use mesh_stream::fault::Fault;
 
+mod below;
 mod inlet;
 mod stage;
 mod start;
 
 // A layer: a filter over the stage below it.
+#[derive(Drop)]
 pub struct Layer<S, F: Filter> {
     below: S,
     filter: F,

@@ -1,4 +1,6 @@
-ghost use Rattle.mesh_layer.specs.Layering.{seen_through};
+ghost use Rattle.mesh_stream.specs.Calls.{Nexted};
+ghost use Rattle.mesh_layer.specs.Filtering.{Asks};
+ghost use Rattle.mesh_layer.specs.Layering.{makes, seen_through};
 
 use super::Layer;
 use crate::filter::Filter;
@@ -13,7 +15,11 @@ impl<S: Stage, F: Filter<In = S::Item>> Stage for Layer<S, F> {
 
     ghost lawful = { λ l. (seen_through S.Stage F.Filter l).lawful };
 
-    fn next(&mut self) -> Result<F::Out, Standing> {
+    fn next(&mut self) -> Result<F::Out, Standing>
+        ensures rule { Nexted (seen_through S.Stage F.Filter self.old).port (seen_through S.Stage F.Filter self.old).means result
+            (seen_through S.Stage F.Filter self.new).port (seen_through S.Stage F.Filter self.new).means }
+        ensures asks { Asks (makes F.Filter self.old) (S.Stage.meaning self.old.below) (S.Stage.meaning self.new.below) }
+    {
         loop {
             if let Some(fault) = self.fault {
                 return Err(Standing::Faulty(fault));

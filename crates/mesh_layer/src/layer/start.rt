@@ -3,7 +3,7 @@ ghost use Rattle.mesh_stream.specs.declared.event.Event.{Event as MeshEvent};
 ghost use Rattle.mesh_stream.specs.Meaning.{Outcome};
 ghost use Rattle.mesh_rules.specs.Piling.{Rule, through};
 ghost use Rattle.mesh_layer.specs.Law.{PutOn};
-ghost use Rattle.mesh_layer.specs.Layering.{seen, seen_through};
+ghost use Rattle.mesh_layer.specs.Layering.{seen};
 
 use super::Layer;
 use crate::filter::Filter;
@@ -14,7 +14,7 @@ impl<S: Stage<Item = Event>, F: Filter<In = Event, Out = Event>> Layer<S, F> {
     // Puts a layer on a stage.
     pub fn over(below: S, filter: F) -> Layer<S, F>
         ensures { (limit : ℕ) (rule : Rule) → ((o : Outcome MeshEvent) → F.Filter.rewrites filter F.Filter.empty o ≡ through limit rule o)
-            → PutOn limit rule (seen S.Stage below) (seen_through S.Stage F.Filter result) }
+            → PutOn limit rule (seen S.Stage below) (seen ⟦<Layer<S, F> as Stage>⟧ result) }
     {
         let rest = filter.no_rest();
         Layer {
