@@ -3,7 +3,7 @@ ghost use Rattle.std.specs.Result.{result_err};
 ghost use Rattle.mesh_stream.specs.Ranges.{in_space, vertex_number};
 ghost use Rattle.mesh_stream.specs.declared.event.Event.TheVariants.{Vertex};
 ghost use Rattle.mesh_judge.specs.Windows.{refuses, end_by};
-ghost use Rattle.mesh_judge.specs.Judging.{window_of, live_limit, Entered, CornerFound, CornersFound, TriangleCounted, Counted, TakenOut, Left, Stands};
+ghost use Rattle.mesh_judge.specs.Judging.{window_of, live_limit, Entered, CornerFound, CornersFound, TriangleCounted, Counted, TakenOut, Left, Renoted, Stands};
 
 use super::Judge;
 use crate::live::{Corners, Live};
@@ -118,6 +118,17 @@ impl<T: Copy> Judge<T> {
         ensures { Left self.old vertex result self.new }
     {
         self.take_out(vertex).ok_or(Cause::NotLive)
+    }
+
+    // Notes something else of a vertex, if it is live, and answers whether it is.
+    pub fn set_note(&mut self, number: u32, note: T) -> bool
+        ensures { Renoted self.old number note result self.new }
+    {
+        let key = Key::vertex(number);
+        match self.live.find(key) {
+            Some(vertex) => self.live.change(key, Live { note, ..vertex }),
+            None => false,
+        }
     }
 
     // How it stands, under this name, over a stage all of whose events it accepted.
