@@ -1,0 +1,2 @@
+-- Filters that judge.
+pub mod Handing

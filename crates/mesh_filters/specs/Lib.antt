@@ -1,0 +1,2 @@
+-- What a filter that judges means, and what it makes of one event.
+pub mod Handing
