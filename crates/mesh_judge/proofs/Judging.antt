@@ -257,14 +257,14 @@ pub record Resets {T : Type 0} {n : ℕ} (t u : Table (Live T) n) (m : ℕ) (v x
   pub count : records u ≡ records t
   pub sets : Sets t u (vertex_key m) (Some x)
 
-pub resets : {T : Type 0} {n : ℕ} (t u : Table (Live T) n) (m : ℕ) (q : Key) (v x : Live T) (r : Bool) → q ≡ vertex_key m → Some v ≡ record_at t q → Changed t u q x r → Resets t u m v x r
+pub resets : {T : Type 0} {n : ℕ} (t u : Table (Live T) n) (m : ℕ) (q : Key) (v x : Live T) (r : Bool) → q ≡ vertex_key m → Some v ≡ record_at t (vertex_key m) → Changed t u q x r → Resets t u m v x r
 resets {T} t u m q v x true e f (s, c, h) = record {
   done = refl;
-  found = ap (record_at t) (sym e) ∙ sym f;
+  found = sym f;
   count = c;
   sets = subst (λ (z : Key). Sets t u z (Some x)) e h;
 }
-resets t u m q v x false e f (s, h) = absurd (none-some v (sym s ∙ sym f))
+resets t u m q v x false e f (s, h) = absurd (none-some v (sym s ∙ ap (record_at t) e ∙ sym f))
 
 pub renoted_judge : {T : Type 0} (j k : Judge T) (n : ℕ) (v : Live T) (x : T) (r : Bool) → Resets j.live k.live n v (record { place = v.place; at = v.at; note = x }) r → k.highest ≡ j.highest → k.triangles ≡ j.triangles → Renoted j n x r k
 renoted_judge {T} j k n v x r s h t = record {

@@ -66,13 +66,18 @@ impl<T: Copy> Judge<T> {
         Ok(())
     }
 
+    // What is kept of a vertex, if it is live.
+    pub fn find(&self, number: u32) -> Option<Live<T>>
+        ensures { result ≡ (window_of self.now).at number }
+    {
+        self.live.find(Key::vertex(number))
+    }
+
     // What is kept of a corner, which has to be live.
     fn corner(&self, number: u32) -> Result<Live<T>, Cause>
         ensures { CornerFound ((window_of self.now).at number) result }
     {
-        self.live
-            .find(Key::vertex(number))
-            .ok_or(Cause::CornerNotLive)
+        self.find(number).ok_or(Cause::CornerNotLive)
     }
 
     // What is kept of a triangle's corners, if all three are live.
@@ -124,9 +129,10 @@ impl<T: Copy> Judge<T> {
     pub fn set_note(&mut self, number: u32, note: T) -> bool
         ensures { Renoted self.old number note result self.new }
     {
-        let key = Key::vertex(number);
-        match self.live.find(key) {
-            Some(vertex) => self.live.change(key, Live { note, ..vertex }),
+        match self.find(number) {
+            Some(vertex) => self
+                .live
+                .change(Key::vertex(number), Live { note, ..vertex }),
             None => false,
         }
     }

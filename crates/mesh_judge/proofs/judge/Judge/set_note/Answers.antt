@@ -3,7 +3,7 @@ use Rattle.mesh_judge.proofs.Judging.{renoted_stray, Resets, resets, renoted_jud
 use Rattle.mesh_judge.proofs.judge.Judge.set_note.Goals as goal
 
 changed : (g : _) (c : goal.After-change g) → Resets c.args.self.now.live c.change.new.self c.args.number c.in-Some.vertex (record { place = c.in-Some.vertex.place; at = c.in-Some.vertex.at; note = c.args.note }) c.change.result
-changed g c = resets _ _ c.args.number c.vertex-key.result c.in-Some.vertex _ c.change.result c.vertex-key.ensures.key c.in-Some.ensures c.change.ensures
+changed g c = resets _ _ c.args.number c.vertex.result c.in-Some.vertex _ c.change.result c.vertex.ensures.key c.in-Some.ensures c.change.ensures
 
 pub invariant_of-self : goal.invariant_of-self
 invariant_of-self g c =
