@@ -50,10 +50,10 @@ impl Compact {
         ensures { Handed listed compact_work self.old.judge self.old.given (Finalization place vertex) result self.new.judge self.new.given }
     {
         let kept = self.judge.finalization(vertex)?;
-        Ok(Brought::only(match kept.note {
-            Some(vertex) => Some(Event::Finalization { place, vertex }),
-            None => None,
-        }))
+        let event = kept
+            .note
+            .map(|vertex| Event::Finalization { place, vertex });
+        Ok(Brought::only(event))
     }
 
     // Accepts an event and answers what is to be handed over for it, or says why not.

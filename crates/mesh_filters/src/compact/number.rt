@@ -1,4 +1,5 @@
 ghost use Rattle.std.specs.Prelude.{◌≡◌, Some, None};
+ghost use Rattle.mesh_judge.specs.Judging.{live_limit};
 ghost use Rattle.mesh_filters.specs.Compacting.{memory_of, StillNoted, Marked};
 
 use crate::compact::Compact;
@@ -6,6 +7,7 @@ use mesh_judge::live::Live;
 use mesh_stream::event::Event;
 
 // The new number of a corner, and the vertex that it brings, if it had none before.
+#[derive(Drop)]
 pub(super) struct Numbered {
     pub(super) number: u32,
     pub(super) brought: Option<Event>,
@@ -16,7 +18,8 @@ impl Compact {
     fn bring(&mut self, vertex: u32, kept: Live<Option<u32>>) -> Numbered
         requires live { (memory_of self.old).window.at vertex ≡ Some kept }
         requires unnumbered { kept.note ≡ None }
-        ensures { Marked (memory_of self.old) vertex result (memory_of self.new) }
+        ensures marked { Marked (memory_of self.old) vertex result (memory_of self.new) }
+        ensures limit { live_limit self.new.judge ≡ live_limit self.old.judge }
     {
         let Live { place, at, .. } = kept;
         let number = self.given.saturating_add(1);
@@ -32,7 +35,8 @@ impl Compact {
     // the same vertex as an earlier corner, numbered a moment ago.
     pub(super) fn number(&mut self, corner: u32, note: Option<u32>) -> Numbered
         requires { StillNoted (memory_of self.old) corner note }
-        ensures { Marked (memory_of self.old) corner result (memory_of self.new) }
+        ensures marked { Marked (memory_of self.old) corner result (memory_of self.new) }
+        ensures limit { live_limit self.new.judge ≡ live_limit self.old.judge }
     {
         if let Some(number) = note {
             return Numbered {

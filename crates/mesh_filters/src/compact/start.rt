@@ -1,10 +1,7 @@
-ghost use Rattle.std.specs.Prelude.{◌≡◌, []};
+ghost use Rattle.std.specs.Prelude.{◌≡◌};
 ghost use Rattle.mesh_stream.specs.declared.event.Event.{Event as EventOf};
 ghost use Rattle.mesh_stream.specs.Meaning.{Outcome};
-ghost use Rattle.mesh_layer.specs.Machine.{runs_on};
-ghost use Rattle.mesh_rules.specs.Piling.{compacts};
-ghost use Rattle.mesh_windows.specs.Windowing.{blank};
-ghost use Rattle.mesh_windows.specs.Working.{windowed};
+ghost use Rattle.mesh_rules.specs.Piling.{compacts, through};
 ghost use Rattle.mesh_filters.specs.Compacting.{nothing};
 ghost use Rattle.mesh_filters.specs.contracts.compact.filter.CompactFilter.TheImpl.{ghosts as compacting};
 
@@ -14,7 +11,7 @@ use mesh_judge::judge::Judge;
 impl Compact {
     // A compact before the first event.
     pub fn new() -> Compact
-        ensures { (o : Outcome EventOf) → compacting.rewrites result nothing o ≡ runs_on (windowed 1024 compacts) [] blank o }
+        ensures { (o : Outcome EventOf) → compacting.rewrites result nothing o ≡ through 1024 compacts o }
     {
         Compact {
             judge: Judge::new(),
