@@ -20,16 +20,16 @@ use Rattle.mesh_table.specs.declared.table.InsertError.{InsertError}
 use Rattle.mesh_table.specs.declared.table.InsertError.TheVariants.{KeyPresent, AtLimit}
 use Rattle.mesh_table.specs.Keys.{vertex_key}
 use Rattle.mesh_table.proofs.Keys.{key_cases}
-use Rattle.mesh_table.specs.Tables.{record_at, records, Empty, Sets, Inserted, Lowest}
+use Rattle.mesh_table.specs.Tables.{record_at, records, Empty, Sets, Inserted, Changed, Lowest}
 use Rattle.mesh_judge.specs.declared.live.Live.{Live}
 use Rattle.mesh_judge.specs.declared.live.Corners.{Corners}
 use Rattle.mesh_judge.specs.declared.judge.Judge.{Judge}
 use Rattle.mesh_judge.specs.Accepting.{unless, refusal}
-use Rattle.mesh_judge.specs.Windows.{Window, fresh, put, refuses, enters, counted, leaves, first, end_by, ending, Knows}
+use Rattle.mesh_judge.specs.Windows.{Window, fresh, put, refuses, enters, counted, leaves, renoted, renotes, first, end_by, ending, Knows}
 use Rattle.mesh_judge.specs.Records.{sound_record, Stray}
-use Rattle.mesh_judge.specs.Judging.{window_of, live_limit, KnowsList, Begun, Accepts, Rejects, KeptAt, Cornered, CornersFound, TakenOut, Left, Stands}
+use Rattle.mesh_judge.specs.Judging.{window_of, live_limit, KnowsList, Begun, Accepts, Rejects, KeptAt, Cornered, CornersFound, TakenOut, Left, Renoted, Stands}
 use Rattle.mesh_judge.proofs.Refusing.{unless_none}
-use Rattle.mesh_judge.proofs.Knowing.{first_none, first_some, refuses_is, ending_is, knows_none, knows_vertex, knows_triangle, knows_final}
+use Rattle.mesh_judge.proofs.Knowing.{first_none, first_some, refuses_is, ending_is, knows_none, knows_vertex, knows_triangle, knows_final, knows_renoted}
 
 -- windows alike at every number are one window
 pub windows_same : {T : Type 0} (w u : Window T) → ((n : ℕ) → w.at n ≡ u.at n) → w.live_count ≡ u.live_count → w.highest ≡ u.highest → w.triangles ≡ u.triangles → w ≡ u
@@ -119,6 +119,15 @@ module _ {T : Type 0} {n : ℕ} (t u : Table (Live T) n) (highest : ℕ) (sound 
       at : (k : Key) (v : Live T) → record_at u k ≡ Some v → (k ≡ q) ⊎ (k ≡ q → ⊥) → sound_record highest k v ≡ true
       at k v e (inl p) = absurd (none-some v (sym (ap (record_at u) p ∙ c.here) ∙ e))
       at k v e (inr p) = kept_sound t highest sound k v (sym (c.other k p) ∙ e)
+
+  pub renoted_stray : (m : ℕ) (v : Live T) (x : T) → record_at t (vertex_key m) ≡ Some v → Sets t u (vertex_key m) (Some (record { place = v.place; at = v.at; note = x })) → Stray u highest → ⊥
+  renoted_stray m v x f c = no_stray u highest (λ k y e. at k y e (key_cases k (vertex_key m)))
+    where
+      at : (k : Key) (y : Live T) → record_at u k ≡ Some y → (k ≡ vertex_key m) ⊎ (k ≡ vertex_key m → ⊥) → sound_record highest k y ≡ true
+      at k y e (inl q) =
+          let s : record { place = v.place; at = v.at; note = x } ≡ y = same_Some _ y (sym c.here ∙ ap (record_at u) (sym q) ∙ e) in
+          ap (λ (z : Live T). in_space z.at && leb k.first highest) (sym s) ∙ kept_sound t highest sound k v (ap (record_at t) q ∙ f)
+      at k y e (inr q) = kept_sound t highest sound k y (sym (c.other k q) ∙ e)
 
 -- A new judge.
 
@@ -239,6 +248,34 @@ module _ {T : Type 0} (j k : Judge T) (p i : ℕ) where
 pub finalized : {T : Type 0} (j k : Judge T) (i : ℕ) (o : Option (Live T)) → TakenOut j i o k → Left j i (ok_or o NotLive) k
 finalized j k i None t = λ p. not_left j k p i t
 finalized j k i (Some x) t = let l = left j k 0 i x t in ((λ p. (left j k p i x t).0), l.1, l.2)
+
+-- Something else noted of a vertex that was found.
+
+pub record Resets {T : Type 0} {n : ℕ} (t u : Table (Live T) n) (m : ℕ) (v x : Live T) (r : Bool) : Type 0 where
+  pub done : r ≡ true
+  pub found : record_at t (vertex_key m) ≡ Some v
+  pub count : records u ≡ records t
+  pub sets : Sets t u (vertex_key m) (Some x)
+
+pub resets : {T : Type 0} {n : ℕ} (t u : Table (Live T) n) (m : ℕ) (q : Key) (v x : Live T) (r : Bool) → q ≡ vertex_key m → Some v ≡ record_at t (vertex_key m) → Changed t u q x r → Resets t u m v x r
+resets {T} t u m q v x true e f (s, c, h) = record {
+  done = refl;
+  found = sym f;
+  count = c;
+  sets = subst (λ (z : Key). Sets t u z (Some x)) e h;
+}
+resets t u m q v x false e f (s, h) = absurd (none-some v (sym s ∙ ap (record_at t) e ∙ sym f))
+
+pub renoted_judge : {T : Type 0} (j k : Judge T) (n : ℕ) (v : Live T) (x : T) (r : Bool) → Resets j.live k.live n v (record { place = v.place; at = v.at; note = x }) r → k.highest ≡ j.highest → k.triangles ≡ j.triangles → Renoted j n x r k
+renoted_judge {T} j k n v x r s h t = record {
+  live = s.done ∙ ap is_some (sym s.found);
+  window = same ∙ ap (renotes (window_of j) n x) (sym s.found);
+  limit = s.sets.limit;
+  by_list = λ es kn. subst (λ (l : ℕ). Knows l (window_of k) es) (sym s.sets.limit) (subst (λ (z : Window T). Knows (live_limit j) z es) (sym same) (knows_renoted (live_limit j) (window_of j) es kn n v x s.found));
+}
+  where
+    same : window_of k ≡ renoted (window_of j) n v x
+    same = windows_same (window_of k) (renoted (window_of j) n v x) (elsewhere j.live k.live n (Some (record { place = v.place; at = v.at; note = x })) s.sets) s.count h t
 
 -- How it stands.
 

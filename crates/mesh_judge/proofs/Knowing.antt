@@ -21,7 +21,7 @@ use Rattle.mesh_stream.proofs.Views.{introduced_v, introduced_t, introduced_f, t
 use Rattle.mesh_stream.proofs.Distinct.{Distinct, distinct_kept, eqb_comm}
 use Rattle.mesh_judge.specs.declared.live.Live.{Live}
 use Rattle.mesh_judge.specs.Accepting.{Rules, unless, refusal, AcceptedAfter, fault, lowest, end_with, stands_over}
-use Rattle.mesh_judge.specs.Windows.{Window, fresh, refuses, enters, counted, leaves, first, end_by, ending, Origin, origin, origin_by, origin_in, largest, Knows}
+use Rattle.mesh_judge.specs.Windows.{Window, fresh, refuses, enters, counted, leaves, renoted, first, end_by, ending, Origin, origin, origin_by, origin_in, largest, Knows}
 use Rattle.mesh_judge.proofs.Refusing.{VertexOk, vertex_ok, final_ok}
 use Rattle.mesh_judge.proofs.Living.{live_introduced, live_vertex, live_triangle, live_final}
 use Rattle.mesh_judge.proofs.Sounding.{sound, new_not_final}
@@ -335,6 +335,20 @@ module _ {T : Type 0} (limit : ℕ) (w : Window T) (es : List Event) (k : Knows 
       at : (m : ℕ) (b : Bool) → eqb m i ≡ b → origin (cond b None (w.at m)) ≡ origin_in (es ++ (Finalization p i ∷ [])) m
       at m true q = sym (ap (λ b. cond b (Some (origin_by (es ++ (Finalization p i ∷ [])) m)) None) (gone m q))
       at m false q = k.at m ∙ sym (origin_same es (Finalization p i) m (other_live m q))
+
+-- something else noted of a vertex
+pub knows_renoted : {T : Type 0} (limit : ℕ) (w : Window T) (es : List Event) → Knows limit w es → (n : ℕ) (v : Live T) (x : T) → w.at n ≡ Some v → Knows limit (renoted w n v x) es
+knows_renoted {T} limit w es k n v x e = record {
+  accepted = k.accepted;
+  at = λ m. at m (eqb m n) refl;
+  live_count = k.live_count;
+  highest = k.highest;
+  triangles = k.triangles;
+}
+  where
+    at : (m : ℕ) (b : Bool) → eqb m n ≡ b → origin (cond b (Some (record { place = v.place; at = v.at; note = x })) (w.at m)) ≡ origin_in es m
+    at m true q = ap origin (sym e) ∙ ap (λ (z : ℕ). origin (w.at z)) (sym (eqb-true m n q)) ∙ k.at m
+    at m false q = k.at m
 
 pub knows_none : {T : Type 0} (limit : ℕ) → Knows {T = T} limit fresh []
 knows_none limit = record { accepted = tt; at = λ n. refl; live_count = refl; highest = refl; triangles = refl }

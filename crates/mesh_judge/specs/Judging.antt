@@ -1,5 +1,5 @@
 -- What a judge's calls do: j is the judge before the call, k after it.
-use Rattle.std.specs.Prelude.{◌≡◌, ℕ, ◌+◌, ◌<◌, ◌≤◌, true, false, ◌&&◌, List, [], ◌∷◌, ◌++◌, is_some, Some, None, Ok, Err, Option, Result}
+use Rattle.std.specs.Prelude.{◌≡◌, ℕ, ◌+◌, ◌<◌, ◌≤◌, Bool, true, false, ◌&&◌, List, [], ◌∷◌, ◌++◌, is_some, Some, None, Ok, Err, Option, Result}
 use Rattle.mesh_stream.specs.declared.event.Event.{Event}
 use Rattle.mesh_stream.specs.declared.event.Event.TheVariants.{Vertex, Triangle, Finalization}
 use Rattle.mesh_stream.specs.declared.fault.Cause.{Cause}
@@ -14,7 +14,7 @@ use Rattle.mesh_judge.specs.declared.live.Live.{Live}
 use Rattle.mesh_judge.specs.declared.live.Corners.{Corners}
 use Rattle.mesh_judge.specs.declared.judge.Judge.{Judge}
 use Rattle.mesh_judge.specs.Accepting.{refusal, stands_over}
-use Rattle.mesh_judge.specs.Windows.{Window, fresh, refuses, enters, counted, leaves, ending, Knows}
+use Rattle.mesh_judge.specs.Windows.{Window, fresh, refuses, enters, counted, leaves, renotes, ending, Knows}
 
 abbrev pub window_of : {T : Type 0} → Judge T → Window T
 window_of j = record {
@@ -97,6 +97,14 @@ Left j i (Ok x) k =
     ((p : ℕ) → Accepts j (Finalization p i) (leaves (window_of j) i) k) × ((window_of j).at i ≡ Some x)
     × ((window_of k).live_count + 1 ≡ (window_of j).live_count)
 Left j i (Err q) k = (p : ℕ) → Rejects j (Finalization p i) q k
+
+-- Something else is noted of a vertex, if it is live, and nothing else is changed.
+pub record Renoted {T : Type 0} (j : Judge T) (n : ℕ) (x : T) (r : Bool) (k : Judge T) : Type 0 where
+  pub live : r ≡ is_some ((window_of j).at n)
+  pub window : window_of k ≡ renotes (window_of j) n x ((window_of j).at n)
+  pub limit : live_limit k ≡ live_limit j
+  -- every list that the judge knew it still knows
+  pub by_list : (es : List Event) → KnowsList j es → KnowsList k es
 
 -- How it stands over what is below, if it accepted all of it.
 pub record Stands {T : Type 0} (j : Judge T) (layer : LayerName) (below s : Standing) : Type 0 where

@@ -51,6 +51,20 @@ counted w = record { at = w.at; live_count = w.live_count; highest = w.highest; 
 abbrev pub leaves : {T : Type 0} → Window T → ℕ → Window T
 leaves w i = record { at = put w.at i None; live_count = w.live_count - 1; highest = w.highest; triangles = w.triangles }
 
+-- Something else is noted of vertex n, which was kept as it is at n: where it was introduced and where it stands stay.
+abbrev pub renoted : {T : Type 0} → Window T → ℕ → Live T → T → Window T
+renoted w n v x = record {
+  at = put w.at n (Some (record { place = v.place; at = v.at; note = x }));
+  live_count = w.live_count;
+  highest = w.highest;
+  triangles = w.triangles;
+}
+
+-- The same if the vertex is live: by what is at n.
+abbrev pub renotes : {T : Type 0} → Window T → ℕ → T → Option (Live T) → Window T
+renotes w n x None = w
+renotes w n x (Some v) = renoted w n v x
+
 -- What is at the first of the numbers 0 to k at which there is something.
 abbrev pub first : {A : Type 0} → (ℕ → Option A) → ℕ → Option A
 first f zero = f 0

@@ -3,7 +3,7 @@ ghost use Rattle.std.specs.Result.{result_err};
 ghost use Rattle.mesh_stream.specs.Ranges.{in_space, vertex_number};
 ghost use Rattle.mesh_stream.specs.declared.event.Event.TheVariants.{Vertex};
 ghost use Rattle.mesh_judge.specs.Windows.{refuses, end_by};
-ghost use Rattle.mesh_judge.specs.Judging.{window_of, live_limit, Entered, CornerFound, CornersFound, TriangleCounted, Counted, TakenOut, Left, Stands};
+ghost use Rattle.mesh_judge.specs.Judging.{window_of, live_limit, Entered, CornerFound, CornersFound, TriangleCounted, Counted, TakenOut, Left, Renoted, Stands};
 
 use super::Judge;
 use crate::live::{Corners, Live};
@@ -66,13 +66,18 @@ impl<T: Copy> Judge<T> {
         Ok(())
     }
 
+    // What is kept of a vertex, if it is live.
+    pub fn find(&self, number: u32) -> Option<Live<T>>
+        ensures { result ≡ (window_of self.now).at number }
+    {
+        self.live.find(Key::vertex(number))
+    }
+
     // What is kept of a corner, which has to be live.
     fn corner(&self, number: u32) -> Result<Live<T>, Cause>
         ensures { CornerFound ((window_of self.now).at number) result }
     {
-        self.live
-            .find(Key::vertex(number))
-            .ok_or(Cause::CornerNotLive)
+        self.find(number).ok_or(Cause::CornerNotLive)
     }
 
     // What is kept of a triangle's corners, if all three are live.
@@ -118,6 +123,18 @@ impl<T: Copy> Judge<T> {
         ensures { Left self.old vertex result self.new }
     {
         self.take_out(vertex).ok_or(Cause::NotLive)
+    }
+
+    // Notes something else of a vertex, if it is live, and answers whether it is.
+    pub fn set_note(&mut self, number: u32, note: T) -> bool
+        ensures { Renoted self.old number note result self.new }
+    {
+        match self.find(number) {
+            Some(vertex) => self
+                .live
+                .change(Key::vertex(number), Live { note, ..vertex }),
+            None => false,
+        }
     }
 
     // How it stands, under this name, over a stage all of whose events it accepted.

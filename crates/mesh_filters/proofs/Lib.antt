@@ -1,0 +1,4 @@
+-- Filters that judge.
+pub mod Handing
+-- Compact.
+pub mod Marking

@@ -1,0 +1,10 @@
+use mesh_judge::judge::Judge;
+
+mod filter;
+mod start;
+
+// The layer that hands over every event that it accepts.
+#[derive(Drop)]
+pub struct Check {
+    judge: Judge<()>,
+}
