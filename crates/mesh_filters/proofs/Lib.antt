@@ -1,2 +1,4 @@
 -- Filters that judge.
 pub mod Handing
+pub mod Kept
+pub mod Products

@@ -1,0 +1,11 @@
+use mesh_judge::judge::Judge;
+
+mod degenerate;
+mod filter;
+mod start;
+
+// The layer that removes degenerate triangles.
+#[derive(Drop)]
+pub struct Clean {
+    judge: Judge<()>,
+}
