@@ -2,3 +2,4 @@
 pub mod Handing
 pub mod Kept
 pub mod Products
+pub mod Passing

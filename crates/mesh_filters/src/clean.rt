@@ -3,6 +3,7 @@ use mesh_judge::judge::Judge;
 mod degenerate;
 mod filter;
 mod start;
+mod vector;
 
 // The layer that removes degenerate triangles.
 #[derive(Drop)]

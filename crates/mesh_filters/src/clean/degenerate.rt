@@ -4,16 +4,8 @@ ghost use Rattle.mesh_rules.specs.Degenerate.{cross, degenerate, from_to, is_zer
 ghost use Rattle.mesh_filters.specs.Near.{Near};
 ghost use Rattle.mesh_filters.specs.Vectors.{vector_of};
 
+use crate::clean::vector::Vector;
 use mesh_stream::event::Point;
-
-// From one point of space to another. Products of two such coordinates fit 64 bits.
-#[derive(Clone, Copy)]
-struct Vector {
-    x: i64,
-    y: i64,
-    z: i64,
-    ghost near: { Near x × Near y × Near z },
-}
 
 // How far one coordinate is from another.
 fn distance(from: i32, to: i32) -> i64
