@@ -2,3 +2,6 @@
 pub mod Handing
 -- Compact.
 pub mod Marking
+pub mod Kept
+pub mod Products
+pub mod Passing

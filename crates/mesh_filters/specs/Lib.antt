@@ -2,3 +2,6 @@
 pub mod Handing
 -- What compact makes of one corner, and what it has to hand over for one event.
 pub mod Compacting
+-- Clean’s vectors.
+pub mod Near
+pub mod Vectors

@@ -1,6 +1,9 @@
-// The filters of the layers that judge the events below and hand over some or all of them.
+// The filters of the five layers.
 #![tactic(auto)]
 
 pub mod check;
+pub mod clean;
+pub mod clip;
 pub mod compact;
 mod fault;
+pub mod renumber;

@@ -1,4 +1,4 @@
-ghost use Rattle.std.specs.Prelude.{None};
+ghost use Rattle.std.specs.Prelude.{refl, None};
 ghost use Rattle.mesh_stream.specs.declared.fault.LayerName.TheVariants.{Check as Checking};
 ghost use Rattle.mesh_windows.specs.Working.{check_work};
 ghost use Rattle.mesh_filters.specs.Handing.{events_of, means, means_filters, Handed};
@@ -44,6 +44,8 @@ impl Filter for Check {
     ghost rewrites = { λ f rest. means Checking check_work f.judge 0 (events_of rest) };
 
     ghost filters = { λ f rest. means_filters Checking check_work f.judge 0 (events_of rest) };
+
+    ghost waits = { λ f. refl };
 
     fn no_rest(&self) -> Option<Event> {
         None

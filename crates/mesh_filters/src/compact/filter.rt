@@ -1,3 +1,4 @@
+ghost use Rattle.std.specs.Prelude.{refl};
 ghost use Rattle.mesh_stream.specs.declared.event.Event.TheVariants.{Vertex, Triangle, Finalization};
 ghost use Rattle.mesh_stream.specs.declared.fault.LayerName.TheVariants.{Compact as Compacting};
 ghost use Rattle.mesh_windows.specs.Working.{compact_work};
@@ -80,6 +81,8 @@ impl Filter for Compact {
     ghost rewrites = { λ f rest. means Compacting compact_work f.judge f.given (listed rest) };
 
     ghost filters = { λ f rest. means_filters Compacting compact_work f.judge f.given (listed rest) };
+
+    ghost waits = { λ f. refl };
 
     fn no_rest(&self) -> Brought {
         Brought::only(None)
