@@ -1,0 +1,4 @@
+// Piles: each call puts one layer more on a stage.
+#![tactic(auto)]
+
+pub mod pile;
