@@ -1,5 +1,5 @@
 -- Every run from a pile keeps the law.
-use Rattle.std.proofs.Common.{◌≡◌, ℕ, ◌+◌, ◌≤◌, true, List, [], ◌∷◌, ◌++◌, length, length-append, sym, refl, ap, ◌∙◌, subst, append-nil, arith}
+use Rattle.std.proofs.Common.{◌≡◌, ℕ, ◌+◌, ◌≤◌, true, List, [], ◌∷◌, ◌++◌, length, length-append, sym, refl, ap, ◌∙◌, subst, append-nil, arith, None}
 use Rattle.mesh_stream.specs.declared.event.Event.{Event}
 use Rattle.mesh_stream.specs.declared.stage.Standing.{Standing}
 use Rattle.mesh_stream.specs.declared.stage.Standing.TheVariants.{Ended}
@@ -10,6 +10,10 @@ use Rattle.mesh_stream.proofs.Running.{left}
 use Rattle.mesh_judge.specs.Accepting.{refusal, Accepted, accepted}
 use Rattle.mesh_rules.specs.Piling.{Rule, name_of, through, pile, lowest_stands}
 use Rattle.mesh_rules.proofs.Piling.{pile_laws}
+use Rattle.mesh_stream.specs.declared.stage.Stage.{Ghosts as StageGhosts}
+use Rattle.mesh_layer.specs.declared.filter.Filter.{Ghosts as FilterGhosts}
+use Rattle.mesh_layer.specs.declared.layer.Layer.{Layer}
+use Rattle.mesh_layer.specs.Layering.{seen, seen_through}
 use Rattle.mesh_layer.specs.Law.{Piled, Gives, Idles, has_ended, ClosedOff, layers, bottom_outcome, whole_mesh, Law, PutOn}
 use Rattle.mesh_layer.proofs.Handed.{accepted_front, well_formed, closed_off, width_front}
 use Rattle.mesh_layer.proofs.Ending.{ended_is_over, ended_leaves_none}
@@ -113,3 +117,10 @@ put_on limit rule v w e h = record {
   where
     more : (lower : List Rule) (G : Meaning Event) → Piled limit lower G v → Piled limit (lower ++ (rule ∷ [])) G w
     more lower G p t m = h t m ∙ ap (through limit rule) (p t m) ∙ sym (pile_more limit lower rule (G t m))
+
+pub put_over : {S F R : Type 0} (stage : StageGhosts S Event) (f : FilterGhosts F Event Event R) (limit : ℕ) (rule : Rule) (below : S) (filter : F) (l : Layer S F Event Event R)
+    → l ≡ record { below = below; filter = filter; rest = f.empty; fault = None } → ((o : Outcome Event) → f.rewrites filter f.empty o ≡ through limit rule o)
+    → PutOn limit rule (seen stage below) (seen_through stage f l)
+put_over stage f limit rule below filter l e h =
+    subst (λ z. PutOn limit rule (seen stage below) (seen_through stage f z)) (sym e)
+    (put_on limit rule (seen stage below) (seen_through stage f (record { below = below; filter = filter; rest = f.empty; fault = None })) refl (λ t m. h (stage.meaning below t m)))
