@@ -7,7 +7,7 @@ mod region;
 mod start;
 
 // The points between two corners on each axis, the corners included.
-#[derive(Clone, Copy, Debug)]
+#[derive(Clone, Copy, PartialEq, Eq, Debug)]
 pub struct AlignedBox {
     low: Point,
     high: Point,

@@ -5,7 +5,7 @@ mod region;
 mod start;
 
 // The points with a·x + b·y + c·z ≤ d.
-#[derive(Clone, Copy, Debug)]
+#[derive(Clone, Copy, PartialEq, Eq, Debug)]
 pub struct HalfSpace {
     a: i32,
     b: i32,

@@ -19,5 +19,5 @@ returns-then-low-high-2 c =
           let x = simp to_z-of_z at w.if-low-high.true in
           let y = simp to_z-of_z at (sym w.value-is ∙ c.if-low-high-2.true) in
           simp to_z-of_z (last_of_three _ _ _ x y)
-      | else-low-high w ↦ let x = w.value-is in let y = w.if-low-high.false in let z = c.if-low-high-2.true in cc
+      | else-low-high w ↦ cc
     ]
