@@ -13,6 +13,10 @@ limit_allowed d = int_le (negsuc 299999999) d && int_le d (pos 300000000)
 abbrev pub half_space_allowed : ℤ → ℤ → ℤ → ℤ → Bool
 half_space_allowed a b c d = factor_allowed a && factor_allowed b && factor_allowed c && limit_allowed d
 
+-- a·x + b·y + c·z at a point
+abbrev pub sum_at : ℤ → ℤ → ℤ → Point → ℤ
+sum_at a b c at = a *ℤ at.x +ℤ b *ℤ at.y +ℤ c *ℤ at.z
+
 -- The points of the half space, those on its plane included.
 abbrev pub in_half_space : ℤ → ℤ → ℤ → ℤ → Point → Bool
-in_half_space a b c d at = int_le (a *ℤ at.x +ℤ b *ℤ at.y +ℤ c *ℤ at.z) d
+in_half_space a b c d at = int_le (sum_at a b c at) d

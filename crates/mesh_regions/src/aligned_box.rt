@@ -18,5 +18,8 @@ pub struct AlignedBox {
 fn rises(low: Point, high: Point) -> bool
     ensures { result ≡ rises low high }
 {
-    low.x <= high.x && low.y <= high.y && low.z <= high.z
+    let x = low.x <= high.x;
+    let y = low.y <= high.y;
+    let z = low.z <= high.z;
+    x && y && z
 }

@@ -1,5 +1,5 @@
 ghost use Rattle.std.specs.Prelude.{◌≡◌, true, pos, negsuc, ◌*ℤ◌, ◌≤ℤ◌};
-ghost use Rattle.mesh_regions.specs.HalfSpaces.{factor_allowed, in_half_space};
+ghost use Rattle.mesh_regions.specs.HalfSpaces.{factor_allowed, in_half_space, sum_at};
 
 use crate::half_space::HalfSpace;
 use crate::region::Region;
@@ -15,11 +15,19 @@ fn product(factor: i32, coordinate: i32) -> i64
     i64::from(factor) * i64::from(coordinate)
 }
 
+impl HalfSpace {
+    // a·x + b·y + c·z
+    fn sum_at(&self, at: Point) -> i64
+        ensures { result ≡ sum_at self.now.a self.now.b self.now.c at }
+    {
+        product(self.a, at.x) + product(self.b, at.y) + product(self.c, at.z)
+    }
+}
+
 impl Region for HalfSpace {
     ghost inside = { λ h. in_half_space h.a h.b h.c h.d };
 
     fn contains(&self, at: Point) -> bool {
-        let sum = product(self.a, at.x) + product(self.b, at.y) + product(self.c, at.z);
-        sum <= i64::from(self.d)
+        self.sum_at(at) <= i64::from(self.d)
     }
 }

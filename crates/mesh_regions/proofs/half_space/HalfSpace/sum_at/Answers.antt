@@ -1,8 +1,7 @@
-use Rattle.std.proofs.Common.{◌+ℤ◌, arith, rules, w32, w64, SFits}
-use Rattle.std.specs.Prelude.{int_le}
+use Rattle.std.proofs.Common.{ℤ, ◌+ℤ◌, arith, rules, w32, w64, SFits}
 use Rattle.std.proofs.lemmas.Int.{ints, to_z-of_z}
 use Rattle.mesh_regions.proofs.Products.{factors_of}
-use Rattle.mesh_regions.proofs.half_space.region.HalfSpaceRegion.contains.Goals as goal
+use Rattle.mesh_regions.proofs.half_space.HalfSpace.sum_at.Goals as goal
 
 pub product-requires-2 : goal.product-requires-2
 product-requires-2 c =
@@ -16,11 +15,11 @@ product-requires-3 c =
     let f : SFits w32 s.c = search rules in
     simp to_z-of_z (factors_of s.a s.b s.c s.d s.allowed).1
 
-pub overflow_add-sum : goal.overflow_add-sum
-overflow_add-sum c = omega (arith, ints)
+pub overflow_add-result : goal.overflow_add-result
+overflow_add-result c = omega (arith, ints)
 
-pub overflow_add-sum-2 : goal.overflow_add-sum-2
-overflow_add-sum-2 c = omega (arith, ints)
+pub overflow_add-result-2 : goal.overflow_add-result-2
+overflow_add-result-2 c = omega (arith, ints)
 
 pub returns : goal.returns
 returns c =
@@ -28,18 +27,15 @@ returns c =
     let sa : SFits w32 s.a = search rules in
     let sb : SFits w32 s.b = search rules in
     let sc : SFits w32 s.c = search rules in
-    let sd : SFits w32 s.d = search rules in
     let sx : SFits w32 c.args.at.x = search rules in
     let sy : SFits w32 c.args.at.y = search rules in
     let sz : SFits w32 c.args.at.z = search rules in
     let x = simp to_z-of_z at c.product.ensures.value in
     let y = simp to_z-of_z at c.product-2.ensures.value in
     let z = simp to_z-of_z at c.product-3.ensures.value in
-    let d = simp to_z-of_z at c.from.ensures in
     let fx : SFits w64 c.product.result = record { sfits = c.product.type_inv } in
     let fy : SFits w64 c.product-2.result = record { sfits = c.product-2.type_inv } in
     let fz : SFits w64 c.product-3.result = record { sfits = c.product-3.type_inv } in
-    let fd : SFits w64 c.from.result = record { sfits = c.from.type_inv } in
     let two : SFits w64 (c.product.result +ℤ c.product-2.result) = omega (arith, ints) in
     let three : SFits w64 (c.product.result +ℤ c.product-2.result +ℤ c.product-3.result) = omega (arith, ints) in
-    simp to_z-of_z (λ n. int_le (x n +ℤ y n +ℤ z n) (d n))
+    simp to_z-of_z (λ n. x n +ℤ y n +ℤ z n)
