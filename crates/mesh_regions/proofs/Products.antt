@@ -4,11 +4,13 @@ use Rattle.std.proofs.lemmas.Int.{ints, unsigned_abs-mul}
 use Rattle.std.proofs.lemmas.Bool.{and_parts, leb-true}
 use Rattle.mesh_regions.specs.HalfSpaces.{factor_allowed, limit_allowed, half_space_allowed}
 
-pub factors_of : (a b c d : ℤ) → half_space_allowed a b c d ≡ true → (factor_allowed b ≡ true) × (factor_allowed c ≡ true)
-factors_of a b c d h =
+pub second_factor : (a b c d : ℤ) → half_space_allowed a b c d ≡ true → factor_allowed b ≡ true
+second_factor a b c d h =
     let abc = (and_parts (factor_allowed a && factor_allowed b && factor_allowed c) (limit_allowed d) h).0 in
-    let ab = (and_parts (factor_allowed a && factor_allowed b) (factor_allowed c) abc).0 in
-    ((and_parts (factor_allowed a) (factor_allowed b) ab).1, (and_parts (factor_allowed a && factor_allowed b) (factor_allowed c) abc).1)
+    (and_parts (factor_allowed a) (factor_allowed b) (and_parts (factor_allowed a && factor_allowed b) (factor_allowed c) abc).0).1
+
+pub third_factor : (a b c d : ℤ) → half_space_allowed a b c d ≡ true → factor_allowed c ≡ true
+third_factor a b c d h = (and_parts (factor_allowed a && factor_allowed b) (factor_allowed c) (and_parts (factor_allowed a && factor_allowed b && factor_allowed c) (limit_allowed d) h).0).1
 
 factor_within : (a : ℤ) → factor_allowed a ≡ true → nat_abs a ≤ 1000
 factor_within (pos n) h = leb-true n 1000 h

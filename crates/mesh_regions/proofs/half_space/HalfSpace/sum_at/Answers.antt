@@ -1,19 +1,13 @@
-use Rattle.std.proofs.Common.{ℤ, ◌+ℤ◌, arith, rules, w32, w64, SFits}
+use Rattle.std.proofs.Common.{◌+ℤ◌, arith, rules, w32, w64, SFits}
 use Rattle.std.proofs.lemmas.Int.{ints, to_z-of_z}
-use Rattle.mesh_regions.proofs.Products.{factors_of}
+use Rattle.mesh_regions.proofs.Products.{second_factor, third_factor}
 use Rattle.mesh_regions.proofs.half_space.HalfSpace.sum_at.Goals as goal
 
 pub product-requires-2 : goal.product-requires-2
-product-requires-2 c =
-    let s = c.args.self.now in
-    let f : SFits w32 s.b = search rules in
-    simp to_z-of_z (factors_of s.a s.b s.c s.d s.allowed).0
+product-requires-2 c = search (rules, to_z-of_z, second_factor)
 
 pub product-requires-3 : goal.product-requires-3
-product-requires-3 c =
-    let s = c.args.self.now in
-    let f : SFits w32 s.c = search rules in
-    simp to_z-of_z (factors_of s.a s.b s.c s.d s.allowed).1
+product-requires-3 c = search (rules, to_z-of_z, third_factor)
 
 pub overflow_add-result : goal.overflow_add-result
 overflow_add-result c = omega (arith, ints)
