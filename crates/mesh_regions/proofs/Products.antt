@@ -13,6 +13,7 @@ pub third_factor : (a b c d : ℤ) → half_space_allowed a b c d ≡ true → f
 third_factor a b c d h = (and_parts (factor_allowed a && factor_allowed b) (factor_allowed c) (and_parts (factor_allowed a && factor_allowed b && factor_allowed c) (limit_allowed d) h).0).1
 
 factor_within : (a : ℤ) → factor_allowed a ≡ true → nat_abs a ≤ 1000
+unfolding factor_allowed
 factor_within (pos n) h = leb-true n 1000 h
 factor_within (negsuc n) h = let l = leb-true n 999 (and_parts (leb n 999) true h).0 in omega arith
 

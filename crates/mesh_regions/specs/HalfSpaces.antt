@@ -3,11 +3,11 @@ use Rattle.std.specs.Prelude.{Bool, ◌&&◌, ℤ, pos, negsuc, ◌+ℤ◌, ◌*
 use Rattle.mesh_stream.specs.declared.event.Point.{Point}
 
 -- from -1,000 to 1,000
-abbrev pub factor_allowed : ℤ → Bool
+unfoldable pub factor_allowed : ℤ → Bool
 factor_allowed a = int_le (negsuc 999) a && int_le a (pos 1000)
 
 -- from -300,000,000 to 300,000,000
-abbrev pub limit_allowed : ℤ → Bool
+unfoldable pub limit_allowed : ℤ → Bool
 limit_allowed d = int_le (negsuc 299999999) d && int_le d (pos 300000000)
 
 abbrev pub half_space_allowed : ℤ → ℤ → ℤ → ℤ → Bool

@@ -6,12 +6,14 @@ ghost use Rattle.mesh_regions.specs.contracts.half_space.region.HalfSpaceRegion.
 use crate::half_space::HalfSpace;
 use mesh_stream::fault::Refusal;
 
+#[tactic(auto, unfolding(crate::specs::HalfSpaces::factor_allowed))]
 fn is_factor(a: i32) -> bool
     ensures { result ≡ factor_allowed a }
 {
     (-1000..=1000).contains(&a)
 }
 
+#[tactic(auto, unfolding(crate::specs::HalfSpaces::limit_allowed))]
 fn is_limit(d: i32) -> bool
     ensures { result ≡ limit_allowed d }
 {
