@@ -7,7 +7,7 @@ use Rattle.mesh_stream.specs.Numbers.{refusal_number}
 
 -- The set of each region of type R; whether the settings are allowed, and the set that they give.
 module _ {R : Type 0} (inside : R → Point → Bool) (allowed : Bool) (set : Point → Bool) where
-  pub record Region (r : R) : Type 0 where
+  pub record HasSet (r : R) : Type 0 where
     pub is_allowed : allowed ≡ true
     pub has_set : (at : Point) → inside r at ≡ set at
 
@@ -17,5 +17,5 @@ module _ {R : Type 0} (inside : R → Point → Bool) (allowed : Bool) (set : Po
     pub number : refusal_number e ≡ 15
 
   abbrev pub Made : Result R Refusal → Type 0
-  Made (Ok r) = Region r
+  Made (Ok r) = HasSet r
   Made (Err e) = NotAllowed e
