@@ -1,0 +1,2 @@
+-- Factors and their products with coordinates.
+pub mod Products
