@@ -86,7 +86,8 @@ module _ (es : List Event) where
       pending_by b h =
           ap pending (marked_at n l) ∙ ap (λ b. if_unnumbered (live_one xs n) (cond b (Some (position xs n)) None)) h
 
-      looked_up : (ns us : List ℕ) (o : Option (Live (Option ℕ))) → pending (m.window.at n) ≡ o → WalkedBy m xs n ns us o → Walked m xs (n ∷ ns) us
+      looked_up : (ns us : List ℕ) (o : Option (Live (Option ℕ))) → pending (m.window.at n) ≡ o → WalkedBy m xs n ns us o
+          → Walked m xs (n ∷ ns) us
       looked_up ns us o e w =
           let v : WalkedBy m xs n ns us (pending (m.window.at n)) = subst (WalkedBy m xs n ns us) (sym e) w in
           record { marked = v.marked; brings = v.brings }
@@ -136,7 +137,8 @@ module _ (es : List Event) where
             shift : (xs ++ (n ∷ [])) ++ us ≡ xs ++ (n ∷ us)
             shift = append_assoc xs (n ∷ []) us
 
-        walk_pending : (ns : List ℕ) → Walked marking (xs ++ (n ∷ [])) ns (unseen (xs ++ (n ∷ [])) ns) → Walked m xs (n ∷ ns) (n ∷ unseen (n ∷ xs) ns)
+        walk_pending : (ns : List ℕ) → Walked marking (xs ++ (n ∷ [])) ns (unseen (xs ++ (n ∷ [])) ns)
+            → Walked m xs (n ∷ ns) (n ∷ unseen (n ∷ xs) ns)
         walk_pending ns w =
             looked_up ns (n ∷ unseen (n ∷ xs) ns) (Some (live_one xs n)) (pending_by false h)
             (first_brought ns (unseen (n ∷ xs) ns) (subst (Walked marking (xs ++ (n ∷ [])) ns) (unseen_next n ns xs) w))
@@ -148,8 +150,11 @@ module _ (es : List Event) where
   walk [] xs m l f k = record { marked = subst (Marked m) (sym (append-nil xs)) k; brings = refl }
   walk (n ∷ ns) xs m l f k =
       at (has n xs) refl f (λ g. walk ns xs m rest g k)
-      (λ h g. walk ns (xs ++ (n ∷ [])) (mark_if m n (Some (live_one xs n))) rest (few_next n ns xs g) (marked_one m xs k n here h (few_left xs _ g)))
+      (λ h g. walk ns (xs ++ (n ∷ [])) marking rest (few_next n ns xs g) (marked_one m xs k n here h (few_left xs _ g)))
     where
+      marking : Memory (Option ℕ)
+      marking = mark_if m n (Some (live_one xs n))
+
       here : is_live es n ≡ true
       here = l n (has_self n ns)
 
@@ -157,11 +162,11 @@ module _ (es : List Event) where
       rest i q = l i (or_right _ _ q)
 
       Later : Type 0
-      Later = Walked (mark_if m n (Some (live_one xs n))) (xs ++ (n ∷ [])) ns (unseen (xs ++ (n ∷ [])) ns)
+      Later = Walked marking (xs ++ (n ∷ [])) ns (unseen (xs ++ (n ∷ [])) ns)
 
       at : (b : Bool) → has n xs ≡ b → Few (xs ++ cond b (unseen xs ns) (n ∷ unseen (n ∷ xs) ns))
           → (Few (xs ++ unseen xs ns) → Walked m xs ns (unseen xs ns))
           → (has n xs ≡ false → Few (xs ++ (n ∷ unseen (n ∷ xs) ns)) → Later)
           → Walked m xs (n ∷ ns) (cond b (unseen xs ns) (n ∷ unseen (n ∷ xs) ns))
-      at true h g old new = walk_numbered m xs k n here ns (unseen xs ns) h (old g)
-      at false h g old new = walk_pending m xs k n here h (few_left xs _ g) ns (new h g)
+      at true h g old later = walk_numbered m xs k n here ns (unseen xs ns) h (old g)
+      at false h g old later = walk_pending m xs k n here h (few_left xs _ g) ns (later h g)
