@@ -15,7 +15,7 @@ pub live_introduced : (es : List Event) (n : ℕ) → is_live es n ≡ true → 
 live_introduced es n h = kept_within (λ m. not (has m (finalized es))) (introduced es) n h
 
 -- live after one event more
-kept_twice : (p q : ℕ → Bool) (xs : List ℕ) → filter (λ n. q n && p n) xs ≡ filter p (filter q xs)
+pub kept_twice : (p q : ℕ → Bool) (xs : List ℕ) → filter (λ n. q n && p n) xs ≡ filter p (filter q xs)
 kept_twice p q [] = refl
 kept_twice p q (x ∷ xs) = at (q x) refl (kept_twice p q xs)
   where

@@ -27,7 +27,7 @@ module _ (es : List Event) (s : Sound es) where
     differ = subst Distinct (sym i) d;
   }
 
-  sound_step : (limit : ℕ) (e : Event) → refusal limit es e ≡ None → Sound (es ++ (e ∷ []))
+  pub sound_step : (limit : ℕ) (e : Event) → refusal limit es e ≡ None → Sound (es ++ (e ∷ []))
   sound_step limit (Vertex l n v) h =
       let a = (vertex_ok limit es l n v h).above in
       sound_as (finalized es) (introduced es ++ (n ∷ [])) (λ m k. has_left m (introduced es) (n ∷ []) (s.born m k))

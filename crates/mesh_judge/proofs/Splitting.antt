@@ -9,7 +9,7 @@ use Rattle.mesh_stream.specs.Meaning.{outcome}
 use Rattle.mesh_judge.specs.Accepting.{Rules, accept, accepted_after, Accepted, AcceptedAfter, Stop, stop, stop_after, fault, stands_over, stands_by, judged}
 
 module _ (rules : Rules) where
-  accepted_split : (xs ys before : List Event) → AcceptedAfter rules before xs → accepted_after rules before (xs ++ ys) ≡ xs ++ accepted_after rules (before ++ xs) ys
+  pub accepted_split : (xs ys before : List Event) → AcceptedAfter rules before xs → accepted_after rules before (xs ++ ys) ≡ xs ++ accepted_after rules (before ++ xs) ys
   accepted_split [] ys before h = ap (λ (z : List Event). accepted_after rules z ys) (sym (append-nil before))
   accepted_split (x ∷ xs) ys before (a, h) =
       ap (λ (o : Option Cause). accept o x (accepted_after rules (before ++ (x ∷ [])) (xs ++ ys))) a

@@ -1,14 +1,12 @@
 -- What a layer keeps of the events that it accepted, and the machine that judges and rewrites by that alone.
-use Rattle.std.specs.Prelude.{◌≡◌, ℕ, ◌+◌, min, Bool, List, [], ◌∷◌, ◌++◌, Some, None, Option}
+use Rattle.std.specs.Prelude.{ℕ, List, Some, None, Option}
 use Rattle.mesh_stream.specs.declared.event.Point.{Point}
 use Rattle.mesh_stream.specs.declared.event.Event.{Event}
 use Rattle.mesh_stream.specs.declared.event.Event.TheVariants.{Vertex, Triangle, Finalization}
 use Rattle.mesh_stream.specs.declared.fault.Cause.{Cause}
 use Rattle.mesh_stream.specs.declared.fault.LayerName.{LayerName}
-use Rattle.mesh_stream.specs.declared.stage.Standing.{Standing}
 use Rattle.mesh_stream.specs.Events.{place_of}
-use Rattle.mesh_judge.specs.declared.live.Live.{Live}
-use Rattle.mesh_judge.specs.Windows.{Window, fresh, refuses, put, enters, counted, leaves, ending}
+use Rattle.mesh_judge.specs.Windows.{Window, fresh, refuses, enters, counted, leaves, ending}
 use Rattle.mesh_layer.specs.Machine.{Verdict, goes, stops, Machine}
 
 -- The window of the layer's judge, and how many new numbers the layer gave.
