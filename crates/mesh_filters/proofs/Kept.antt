@@ -1,5 +1,5 @@
 -- What a filter finds in the corners that its judge answers, as its window has it.
-use Rattle.std.proofs.Common.{◌≡◌, ℕ, Bool, true, false, List, [], ◌∷◌, Some, sym, refl}
+use Rattle.std.proofs.Common.{◌≡◌, ℕ, Bool, true, false, sym, refl}
 use Rattle.std.specs.Bool.{then_some}
 use Rattle.mesh_stream.specs.declared.event.Event.{Event}
 use Rattle.mesh_judge.specs.declared.live.Corners.{Corners}

@@ -1,5 +1,5 @@
 -- Products of near numbers, and when two are equal.
-use Rattle.std.proofs.Common.{◌≡◌, ℕ, ◌*◌, ◌≤◌, Bool, true, eqb, true≢false, ℤ, pos, negsuc, ◌+ℤ◌, ◌-ℤ◌, ◌*ℤ◌, nat_abs, sym, refl, ap, ◌∙◌, mul-le-mul, arith, w64, SFits, to_z, of_z}
+use Rattle.std.proofs.Common.{◌≡◌, ◌*◌, ◌≤◌, true, eqb, true≢false, ℤ, pos, negsuc, ◌+ℤ◌, ◌-ℤ◌, ◌*ℤ◌, nat_abs, sym, ap, ◌∙◌, mul-le-mul, arith, w64, SFits, to_z, of_z}
 use Rattle.std.specs.Cmp.{both_ways}
 use Rattle.std.proofs.Math.IntN.{+ℤ_idl, +ℤ_invr, -ℤ-+ℤ_cancel}
 use Rattle.std.proofs.lemmas.Bool.{eqb-true, eq-eqb}

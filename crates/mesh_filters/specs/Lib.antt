@@ -1,7 +1,7 @@
 -- What a filter that judges means, and what it makes of one event.
 pub mod Handing
--- What compact makes of one corner, and what it has to hand over for one event.
-pub mod Compacting
 -- Clean’s vectors.
 pub mod Near
 pub mod Vectors
+-- What compact makes of one corner, and what it has to hand over for one event.
+pub mod Compacting

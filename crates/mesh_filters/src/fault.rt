@@ -12,10 +12,9 @@ pub(crate) fn or_fault<T>(
 ) -> Result<T, Fault>
     ensures { result ≡ or_fault judged layer event }
 {
-    let place = event.place();
     judged.map_err(|cause| Fault {
         layer,
         cause,
-        place,
+        place: event.place(),
     })
 }

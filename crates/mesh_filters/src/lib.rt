@@ -1,4 +1,4 @@
-// The filters of the five layers.
+// The filters of the layers that judge the events below and hand over what is made of them.
 #![tactic(auto)]
 
 pub mod check;

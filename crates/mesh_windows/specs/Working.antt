@@ -4,7 +4,7 @@ use Rattle.mesh_stream.specs.declared.event.Point.{Point}
 use Rattle.mesh_stream.specs.declared.event.Event.{Event}
 use Rattle.mesh_stream.specs.declared.event.Event.TheVariants.{Vertex, Triangle, Finalization}
 use Rattle.mesh_judge.specs.declared.live.Live.{Live}
-use Rattle.mesh_judge.specs.Windows.{Window, put}
+use Rattle.mesh_judge.specs.Windows.{Window, renoted}
 use Rattle.mesh_layer.specs.Machine.{Machine}
 use Rattle.mesh_rules.specs.Rewriting.{is_sound}
 use Rattle.mesh_rules.specs.Piling.{Rule, checks, cleans, clips, compacts, renumbers, name_of}
@@ -76,19 +76,10 @@ abbrev pub pending : Option (Live (Option ℕ)) → Option (Live (Option ℕ))
 pending None = None
 pending (Some v) = if_unnumbered v v.note
 
--- the window with a new note of vertex n
-abbrev pub noted : {T : Type 0} → Window T → ℕ → Live T → T → Window T
-noted w n v x = record {
-  at = put w.at n (Some (record { place = v.place; at = v.at; note = x }));
-  live_count = w.live_count;
-  highest = w.highest;
-  triangles = w.triangles;
-}
-
 -- A corner that is pending gets the next number, and is handed over.
 abbrev pub mark_if : Memory (Option ℕ) → ℕ → Option (Live (Option ℕ)) → Memory (Option ℕ)
 mark_if m n None = m
-mark_if m n (Some v) = remembers (noted m.window n v (Some (next_number m.given))) (next_number m.given)
+mark_if m n (Some v) = remembers (renoted m.window n v (Some (next_number m.given))) (next_number m.given)
 
 abbrev pub mark : Memory (Option ℕ) → ℕ → Memory (Option ℕ)
 mark m n = mark_if m n (pending (m.window.at n))

@@ -5,15 +5,15 @@ ghost use Rattle.mesh_layer.specs.Machine.{runs_on};
 ghost use Rattle.mesh_rules.specs.Piling.{checks};
 ghost use Rattle.mesh_windows.specs.Windowing.{blank};
 ghost use Rattle.mesh_windows.specs.Working.{windowed};
-ghost use Rattle.mesh_filters.specs.contracts.check.filter.CheckFilter.TheImpl.{ghosts as checking};
 
 use crate::check::Check;
 use mesh_judge::judge::Judge;
+use mesh_layer::filter::Filter;
 
 impl Check {
     // A check before the first event.
     pub fn new() -> Check
-        ensures { (o : Outcome EventOf) → checking.rewrites result None o ≡ runs_on (windowed 1024 checks) [] blank o }
+        ensures { (o : Outcome EventOf) → ⟦<Check as Filter>⟧.rewrites result None o ≡ runs_on (windowed 1024 checks) [] blank o }
     {
         Check {
             judge: Judge::new(),

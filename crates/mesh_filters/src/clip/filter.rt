@@ -16,7 +16,8 @@ use mesh_stream::stage::Standing;
 fn all_kept(corners: Corners<bool>) -> bool
     ensures { result ≡ (corners.a.note && corners.b.note && corners.c.note) }
 {
-    corners.a.note && corners.b.note && corners.c.note
+    let Corners { a, b, c } = corners;
+    a.note && b.note && c.note
 }
 
 impl<R: Region> Clip<R> {

@@ -3,8 +3,8 @@ ghost use Rattle.mesh_stream.specs.declared.fault.LayerName.TheVariants.{Renumbe
 ghost use Rattle.mesh_windows.specs.Working.{renumber_work};
 ghost use Rattle.mesh_filters.specs.Handing.{events_of, means, means_filters, Handed};
 
-use crate::renumber::Renumber;
 use crate::fault::or_fault;
+use crate::renumber::Renumber;
 use mesh_judge::live::{Corners, Live};
 use mesh_layer::filter::Filter;
 use mesh_stream::event::Event;
@@ -21,15 +21,27 @@ impl Renumber {
                 let note = self.given.saturating_add(1);
                 self.judge.vertex(number, Live { place, at, note })?;
                 self.given = note;
-                Event::Vertex { place, number: note, at }
+                Event::Vertex {
+                    place,
+                    number: note,
+                    at,
+                }
             }
             Event::Triangle { place, a, b, c } => {
                 let Corners { a, b, c } = self.judge.triangle(a, b, c)?;
-                Event::Triangle { place, a: a.note, b: b.note, c: c.note }
+                Event::Triangle {
+                    place,
+                    a: a.note,
+                    b: b.note,
+                    c: c.note,
+                }
             }
             Event::Finalization { place, vertex } => {
                 let kept = self.judge.finalization(vertex)?;
-                Event::Finalization { place, vertex: kept.note }
+                Event::Finalization {
+                    place,
+                    vertex: kept.note,
+                }
             }
         };
         Ok(Some(renumbered))

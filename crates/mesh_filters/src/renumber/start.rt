@@ -5,15 +5,15 @@ ghost use Rattle.mesh_layer.specs.Machine.{runs_on};
 ghost use Rattle.mesh_rules.specs.Piling.{renumbers};
 ghost use Rattle.mesh_windows.specs.Windowing.{blank};
 ghost use Rattle.mesh_windows.specs.Working.{windowed};
-ghost use Rattle.mesh_filters.specs.contracts.renumber.filter.RenumberFilter.TheImpl.{ghosts as renumbering};
 
 use crate::renumber::Renumber;
 use mesh_judge::judge::Judge;
+use mesh_layer::filter::Filter;
 
 impl Renumber {
     // A renumber before the first event.
     pub fn new() -> Renumber
-        ensures { (o : Outcome EventOf) → renumbering.rewrites result None o ≡ runs_on (windowed 1024 renumbers) [] blank o }
+        ensures { (o : Outcome EventOf) → ⟦<Renumber as Filter>⟧.rewrites result None o ≡ runs_on (windowed 1024 renumbers) [] blank o }
     {
         Renumber {
             judge: Judge::new(),

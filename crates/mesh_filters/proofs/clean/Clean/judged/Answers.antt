@@ -22,15 +22,15 @@ pub returns : goal.returns
 returns c =
     let j = c.args.self.now.judge in
     rw c.then_some.ensures (elim c.match-item.branch [
-      in-Vertex+in_ok-vertex-in-Vertex w ↦
-        let v = w.in-Vertex in
-        rw (w.self-is, w.item-is, w.sound-is, v.is) (hands_over clean_work j _ 0 0 (Vertex v.place v.number v.at) _ _ w.in_ok-vertex-in-Vertex.ensures refl refl)
-    | in-Triangle+in_ok-a-in-Triangle w ↦
-        let t = w.in-Triangle in
-        let h = w.in_ok-a-in-Triangle.ensures in
-        rw (w.self-is, w.item-is, w.sound-is, t.is) (hands_over clean_work j _ 0 0 (Triangle t.place t.a t.b t.c) _ _ (h.0 t.place) refl
+      | in-Vertex+in_ok-vertex-in-Vertex w ↦
+          let v = w.in-Vertex in
+          rw (w.self-is, w.item-is, w.sound-is, v.is) (hands_over clean_work j _ 0 0 (Vertex v.place v.number v.at) _ _ w.in_ok-vertex-in-Vertex.ensures refl refl)
+      | in-Triangle+in_ok-a-in-Triangle w ↦
+          let t = w.in-Triangle in
+          let h = w.in_ok-a-in-Triangle.ensures in
+          rw (w.self-is, w.item-is, w.sound-is, t.is) (hands_over clean_work j _ 0 0 (Triangle t.place t.a t.b t.c) _ _ (h.0 t.place) refl
           (listed_if _ _ ∙ ap (λ (b : Bool). only_if (not b) (Triangle t.place t.a t.b t.c)) (w.is_degenerate.ensures ∙ degenerate_corners (window_of j) t.a t.b t.c _ h.1)))
-    | in-Finalization+in_ok-finalization-in-Finalization w ↦
-        let t = w.in-Finalization in
-        rw (w.self-is, w.item-is, w.sound-is, t.is) (hands_over clean_work j _ 0 0 (Finalization t.place t.vertex) _ _ (w.in_ok-finalization-in-Finalization.ensures.0 t.place) refl refl)
+      | in-Finalization+in_ok-finalization-in-Finalization w ↦
+          let t = w.in-Finalization in
+          rw (w.self-is, w.item-is, w.sound-is, t.is) (hands_over clean_work j _ 0 0 (Finalization t.place t.vertex) _ _ (w.in_ok-finalization-in-Finalization.ensures.0 t.place) refl refl)
     ])

@@ -25,19 +25,19 @@ returns-clause-handed g c =
     let f = c.args.self.now in
     let work = clip_work (g.R.Region.inside f.region) in
     rw c.then_some.ensures (elim c.match-item.branch [
-      in-Vertex+in_ok-vertex-in-Vertex w ↦
-        let v = w.in-Vertex in
-        rw (w.self-is, w.item-is, w.kept-is, v.is) (hands_over work f.judge _ 0 0 (Vertex v.place v.number v.at) _ _ w.in_ok-vertex-in-Vertex.ensures
+      | in-Vertex+in_ok-vertex-in-Vertex w ↦
+          let v = w.in-Vertex in
+          rw (w.self-is, w.item-is, w.kept-is, v.is) (hands_over work f.judge _ 0 0 (Vertex v.place v.number v.at) _ _ w.in_ok-vertex-in-Vertex.ensures
           (ap (λ (b : Bool). remembers (enters (window_of f.judge) v.number (record { place = v.place; at = v.at; note = b })) 0) w.contains-note.ensures)
           (listed_if _ _ ∙ ap (λ (b : Bool). only_if b (Vertex v.place v.number v.at)) w.contains-note.ensures))
-    | in-Triangle+in_ok-triangle-in-Triangle w ↦
-        let t = w.in-Triangle in
-        let h = w.in_ok-triangle-in-Triangle.ensures in
-        rw (w.self-is, w.item-is, w.kept-is, t.is) (hands_over work f.judge _ 0 0 (Triangle t.place t.a t.b t.c) _ _ (h.0 t.place) refl
+      | in-Triangle+in_ok-triangle-in-Triangle w ↦
+          let t = w.in-Triangle in
+          let h = w.in_ok-triangle-in-Triangle.ensures in
+          rw (w.self-is, w.item-is, w.kept-is, t.is) (hands_over work f.judge _ 0 0 (Triangle t.place t.a t.b t.c) _ _ (h.0 t.place) refl
           (listed_if _ _ ∙ ap (λ (b : Bool). only_if b (Triangle t.place t.a t.b t.c)) (w.all_kept-kept.ensures ∙ by_notes (window_of f.judge) t.a t.b t.c _ h.1 false (λ x y z. x && y && z))))
-    | in-Finalization+in_ok-kept-in-Finalization w ↦
-        let t = w.in-Finalization in
-        let h = w.in_ok-kept-in-Finalization.ensures in
-        rw (w.self-is, w.item-is, w.kept-is, t.is) (hands_over work f.judge _ 0 0 (Finalization t.place t.vertex) _ _ (h.0 t.place) refl
+      | in-Finalization+in_ok-kept-in-Finalization w ↦
+          let t = w.in-Finalization in
+          let h = w.in_ok-kept-in-Finalization.ensures in
+          rw (w.self-is, w.item-is, w.kept-is, t.is) (hands_over work f.judge _ 0 0 (Finalization t.place t.vertex) _ _ (h.0 t.place) refl
           (listed_if _ _ ∙ (λ i. only_if (note_of false (sym h.1 i)) (Finalization t.place t.vertex))))
     ])

@@ -25,7 +25,7 @@ returns-in_ok-a-in-Triangle c =
     let f = c.args.self.now in
     let h = c.in_ok-a-in-Triangle.ensures in
     rw t.is (hands_over renumber_work f.judge _ f.given f.given (Triangle t.place t.a t.b t.c) _ _ (h.0 t.place) refl
-      (by_notes (window_of f.judge) t.a t.b t.c _ h.1 0 (λ x y z. Triangle t.place x y z ∷ [])))
+    (by_notes (window_of f.judge) t.a t.b t.c _ h.1 0 (λ x y z. Triangle t.place x y z ∷ [])))
 
 pub returns-in_ok-kept-in-Finalization : goal.returns-in_ok-kept-in-Finalization
 returns-in_ok-kept-in-Finalization c =
@@ -33,4 +33,4 @@ returns-in_ok-kept-in-Finalization c =
     let f = c.args.self.now in
     let h = c.in_ok-kept-in-Finalization.ensures in
     rw t.is (hands_over renumber_work f.judge _ f.given f.given (Finalization t.place t.vertex) _ _ (h.0 t.place) refl
-      (λ i. Finalization t.place (note_of 0 (sym h.1 i)) ∷ []))
+    (λ i. Finalization t.place (note_of 0 (sym h.1 i)) ∷ []))

@@ -16,8 +16,8 @@ returns-then-same_products-2 c =
     let first = c.same_products.ensures ∙ products_passed u.y v.z u.z v.y uy vz uz vy in
     let last = c.same_products-then-same_products-2.ensures ∙ products_passed u.x v.y u.y v.x ux vy uy vx in
     elim c.if-same_products.branch [
-      then-same_products w ↦
-        let second = w.same_products-then-same_products.ensures ∙ products_passed u.z v.x u.x v.z uz vx ux vz in
-        last ∙ third _ _ _ (sym first ∙ w.if-same_products.true) (sym second ∙ sym w.value-is ∙ c.if-same_products-2.true)
-    | else-same_products w ↦ absurd (true≢false (sym c.if-same_products-2.true ∙ w.value-is ∙ w.if-same_products.false))
+      | then-same_products w ↦
+          let second = w.same_products-then-same_products.ensures ∙ products_passed u.z v.x u.x v.z uz vx ux vz in
+          last ∙ third _ _ _ (sym first ∙ w.if-same_products.true) (sym second ∙ sym w.value-is ∙ c.if-same_products-2.true)
+      | else-same_products w ↦ absurd (true≢false (sym c.if-same_products-2.true ∙ w.value-is ∙ w.if-same_products.false))
     ]
