@@ -1,1 +1,2 @@
--- Piles.
+-- What a report on a mesh text says.
+pub mod Texts

@@ -2,3 +2,4 @@
 #![tactic(auto)]
 
 pub mod pile;
+pub mod text_report;

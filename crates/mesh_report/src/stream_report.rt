@@ -1,7 +1,7 @@
 use crate::report::Report;
 
 mod pieces;
-pub mod text;
+
 
 // A report over an inlet that is fed piece by piece.
 #[derive(Drop)]
