@@ -7,10 +7,10 @@ use Rattle.mesh_stream.specs.declared.fault.LayerName.{LayerName}
 use Rattle.mesh_stream.specs.Meaning.{Outcome, prepend}
 use Rattle.mesh_judge.specs.declared.judge.Judge.{Judge}
 use Rattle.mesh_judge.specs.Windows.{Window, refuses}
-use Rattle.mesh_judge.specs.Judging.{window_of, live_limit, Accepts, Rejects}
+use Rattle.mesh_judge.specs.Judging.{window_of, live_limit, Begun, Accepts, Rejects}
 use Rattle.mesh_layer.specs.Filtering.{Takes}
 use Rattle.mesh_layer.specs.Machine.{run, after, runs_on}
-use Rattle.mesh_windows.specs.Windowing.{Memory, remembers, Work, moves_on, verdict, machine}
+use Rattle.mesh_windows.specs.Windowing.{Memory, blank, remembers, Work, moves_on, verdict, machine}
 use Rattle.mesh_filters.specs.Handing.{means, or_fault, HandsOver, Handed}
 
 -- From the judge's answer to the filter's.
@@ -46,3 +46,8 @@ module _ {T : Type 0} (layer : LayerName) (work : Work T) (j : Judge T) (given :
       → Takes empty (λ h. means layer work j given (listed h)) e (or_fault r layer e) (λ h. means layer work k now (listed h))
   takes listed empty n e (Ok rest) k now h = λ o. ap (λ (z : List Event). means layer work j given z (prepend e o)) n ∙ goes_on e (listed rest) k now h o
   takes listed empty n e (Err c) k now h = λ o. ap (λ (z : List Event). means layer work j given z (prepend e o)) n ∙ by_verdict e (Some c) h o
+
+-- A new filter is its machine before the first event.
+pub begins : {T : Type 0} (layer : LayerName) (work : Work T) (j : Judge T) → Begun 1024 j → (o : Outcome Event)
+    → means layer work j 0 [] o ≡ run (machine 1024 layer work) blank o.items o.stands
+begins layer work j b o = λ i. run (machine (b.limit i) layer work) (remembers (b.window i) 0) o.items o.stands
