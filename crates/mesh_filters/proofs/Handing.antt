@@ -11,16 +11,16 @@ use Rattle.mesh_judge.specs.Judging.{window_of, live_limit, Begun, Accepts, Reje
 use Rattle.mesh_layer.specs.Filtering.{Takes}
 use Rattle.mesh_layer.specs.Machine.{Machine, run, after, runs_on}
 use Rattle.mesh_windows.specs.Windowing.{Memory, blank, remembers, Work, moves_on, verdict, machine}
-use Rattle.mesh_filters.specs.Handing.{memory, means, or_fault, HandsOver, Handed}
+use Rattle.mesh_filters.specs.Handing.{memory_by, means, or_fault, HandsOver, Handed}
 
 -- From the judge's answer to the filter's.
 module _ {T : Type 0} (work : Work T) (j k : Judge T) (given now : ℕ) (e : Event) where
-  pub hands_over : (w : Window T) (out : List Event) → Accepts j e w k → remembers w now ≡ moves_on work (memory j given) e
-      → out ≡ work.hands (memory j given) e → HandsOver work j given e out k now
+  pub hands_over : (w : Window T) (out : List Event) → Accepts j e w k → remembers w now ≡ moves_on work (memory_by j given) e
+      → out ≡ work.hands (memory_by j given) e → HandsOver work j given e out k now
   hands_over w out a m h = record {
     accepted = a.by_window;
     limit = a.limit;
-    remembered = ap (λ (u : Window T). remembers u now) a.window ∙ m;
+    memory = ap (λ (u : Window T). remembers u now) a.window ∙ m;
     handed = h;
   }
 
@@ -36,7 +36,7 @@ module _ {T : Type 0} (layer : LayerName) (work : Work T) (j : Judge T) (given :
   -- From what it does with an event to the machine.
   abbrev goes_by : Event → Option Cause → Outcome Event → Outcome Event
   goes_by e v o =
-      after (verdict layer e v (moves_on work (memory j given) e) (work.hands (memory j given) e))
+      after (verdict layer e v (moves_on work (memory_by j given) e) (work.hands (memory_by j given) e))
       (λ m. run (at (live_limit j)) m o.items o.stands)
 
   by_verdict : (e : Event) (v : Option Cause) → refuses (live_limit j) (window_of j) e ≡ v → (o : Outcome Event)
@@ -46,7 +46,7 @@ module _ {T : Type 0} (layer : LayerName) (work : Work T) (j : Judge T) (given :
   goes_on : (e : Event) (out : List Event) (k : Judge T) (now : ℕ) → HandsOver work j given e out k now → (o : Outcome Event)
       → means layer work j given [] (prepend e o) ≡ means layer work k now out o
   goes_on e out k now h o =
-      by_verdict e None h.accepted o ∙ (λ i. runs_on (at (sym h.limit i)) (sym h.handed i) (sym h.remembered i) o)
+      by_verdict e None h.accepted o ∙ (λ i. runs_on (at (sym h.limit i)) (sym h.handed i) (sym h.memory i) o)
 
   all_handed : {H : Type 0} (listed : H → List Event) (empty : H) → listed empty ≡ [] → (o : Outcome Event)
       → means layer work j given (listed empty) o ≡ means layer work j given [] o

@@ -1,5 +1,5 @@
 -- What a filter that judges means, and what it makes of one event.
 pub mod Handing
--- Clean’s vectors.
+-- The vectors of clean.
 pub mod Near
 pub mod Vectors
