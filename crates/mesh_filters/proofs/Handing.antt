@@ -9,14 +9,14 @@ use Rattle.mesh_judge.specs.declared.judge.Judge.{Judge}
 use Rattle.mesh_judge.specs.Windows.{Window, refuses}
 use Rattle.mesh_judge.specs.Judging.{window_of, live_limit, Begun, Accepts, Rejects}
 use Rattle.mesh_layer.specs.Filtering.{Takes}
-use Rattle.mesh_layer.specs.Machine.{run, after, runs_on}
+use Rattle.mesh_layer.specs.Machine.{Machine, run, after, runs_on}
 use Rattle.mesh_windows.specs.Windowing.{Memory, blank, remembers, Work, moves_on, verdict, machine}
-use Rattle.mesh_filters.specs.Handing.{means, or_fault, HandsOver, Handed}
+use Rattle.mesh_filters.specs.Handing.{memory_by, means, or_fault, HandsOver, Handed}
 
 -- From the judge's answer to the filter's.
 module _ {T : Type 0} (work : Work T) (j k : Judge T) (given now : ℕ) (e : Event) where
-  pub hands_over : (w : Window T) (out : List Event) → Accepts j e w k → remembers w now ≡ moves_on work (remembers (window_of j) given) e
-      → out ≡ work.hands (remembers (window_of j) given) e → HandsOver work j given e out k now
+  pub hands_over : (w : Window T) (out : List Event) → Accepts j e w k → remembers w now ≡ moves_on work (memory_by j given) e
+      → out ≡ work.hands (memory_by j given) e → HandsOver work j given e out k now
   hands_over w out a m h = record {
     accepted = a.by_window;
     limit = a.limit;
@@ -24,28 +24,39 @@ module _ {T : Type 0} (work : Work T) (j k : Judge T) (given now : ℕ) (e : Eve
     handed = h;
   }
 
-  pub not_handed : {H : Type 0} (listed : H → List Event) (c : Cause) (r : Result H Cause) → Rejects j e c k → IsErrAnd r (λ q. q ≡ c) → Handed listed work j given e r k now
+  pub not_handed : {H : Type 0} (listed : H → List Event) (c : Cause) (r : Result H Cause) → Rejects j e c k
+      → IsErrAnd r (λ q. q ≡ c) → Handed listed work j given e r k now
   not_handed listed c (Ok rest) f h = absurd h
   not_handed listed c (Err q) f h = f.by_window ∙ ap (λ (x : Cause). Some x) (sym h)
 
 module _ {T : Type 0} (layer : LayerName) (work : Work T) (j : Judge T) (given : ℕ) where
+  abbrev at : ℕ → Machine (Memory T) Event Event
+  at limit = machine limit layer work
+
   -- From what it does with an event to the machine.
-  by_verdict : (e : Event) (v : Option Cause) → refuses (live_limit j) (window_of j) e ≡ v → (o : Outcome Event) → means layer work j given [] (prepend e o)
-      ≡ after (verdict layer e v (moves_on work (remembers (window_of j) given) e) (work.hands (remembers (window_of j) given) e)) (λ n. run (machine (live_limit j) layer work) n o.items o.stands)
-  by_verdict e v h o =
-      ap (λ (u : Option Cause). after (verdict layer e u (moves_on work (remembers (window_of j) given) e) (work.hands (remembers (window_of j) given) e)) (λ n. run (machine (live_limit j) layer work) n o.items o.stands)) h
+  abbrev goes_by : Event → Option Cause → Outcome Event → Outcome Event
+  goes_by e v o =
+      after (verdict layer e v (moves_on work (memory_by j given) e) (work.hands (memory_by j given) e))
+      (λ m. run (at (live_limit j)) m o.items o.stands)
 
-  goes_on : (e : Event) (out : List Event) (k : Judge T) (now : ℕ) → HandsOver work j given e out k now → (o : Outcome Event) → means layer work j given [] (prepend e o) ≡ means layer work k now out o
+  by_verdict : (e : Event) (v : Option Cause) → refuses (live_limit j) (window_of j) e ≡ v → (o : Outcome Event)
+      → means layer work j given [] (prepend e o) ≡ goes_by e v o
+  by_verdict e v h o = ap (λ (u : Option Cause). goes_by e u o) h
+
+  goes_on : (e : Event) (out : List Event) (k : Judge T) (now : ℕ) → HandsOver work j given e out k now → (o : Outcome Event)
+      → means layer work j given [] (prepend e o) ≡ means layer work k now out o
   goes_on e out k now h o =
-      by_verdict e None h.accepted o
-      ∙ ap (λ (l : ℕ). runs_on (machine l layer work) (work.hands (remembers (window_of j) given) e) (moves_on work (remembers (window_of j) given) e) o) (sym h.limit)
-      ∙ ap (λ (m : Memory T). runs_on (machine (live_limit k) layer work) (work.hands (remembers (window_of j) given) e) m o) (sym h.memory)
-      ∙ ap (λ (z : List Event). runs_on (machine (live_limit k) layer work) z (remembers (window_of k) now) o) (sym h.handed)
+      by_verdict e None h.accepted o ∙ (λ i. runs_on (at (sym h.limit i)) (sym h.handed i) (sym h.memory i) o)
 
-  pub takes : {H : Type 0} (listed : H → List Event) (empty : H) → listed empty ≡ [] → (e : Event) (r : Result H Cause) (k : Judge T) (now : ℕ) → Handed listed work j given e r k now
+  all_handed : {H : Type 0} (listed : H → List Event) (empty : H) → listed empty ≡ [] → (o : Outcome Event)
+      → means layer work j given (listed empty) o ≡ means layer work j given [] o
+  all_handed listed empty none o = ap (λ (z : List Event). means layer work j given z o) none
+
+  pub takes : {H : Type 0} (listed : H → List Event) (empty : H) → listed empty ≡ [] → (e : Event) (r : Result H Cause)
+      (k : Judge T) (now : ℕ) → Handed listed work j given e r k now
       → Takes empty (λ h. means layer work j given (listed h)) e (or_fault r layer e) (λ h. means layer work k now (listed h))
-  takes listed empty n e (Ok rest) k now h = λ o. ap (λ (z : List Event). means layer work j given z (prepend e o)) n ∙ goes_on e (listed rest) k now h o
-  takes listed empty n e (Err c) k now h = λ o. ap (λ (z : List Event). means layer work j given z (prepend e o)) n ∙ by_verdict e (Some c) h o
+  takes listed empty none e (Ok rest) k now h = λ o. all_handed listed empty none (prepend e o) ∙ goes_on e (listed rest) k now h o
+  takes listed empty none e (Err c) k now h = λ o. all_handed listed empty none (prepend e o) ∙ by_verdict e (Some c) h o
 
 -- A new filter is its machine before the first event.
 pub begins : {T : Type 0} (layer : LayerName) (work : Work T) (j : Judge T) → Begun 1024 j → (o : Outcome Event)

@@ -17,5 +17,6 @@ module _ {T : Type 0} (w : Window T) (a b c : ℕ) (s : Corners T) (k : Cornered
   pub degenerate_corners : degenerate s.a.at s.b.at s.c.at ≡ degenerate (point_of (w.at a)) (point_of (w.at b)) (point_of (w.at c))
   degenerate_corners = λ i. degenerate (point_of (sym k.first.0 i)) (point_of (sym k.second.0 i)) (point_of (sym k.third.0 i))
 
-  pub by_notes : {A : Type 0} (none : T) (f : T → T → T → A) → f s.a.note s.b.note s.c.note ≡ f (note_of none (w.at a)) (note_of none (w.at b)) (note_of none (w.at c))
+  pub by_notes : {A : Type 0} (none : T) (f : T → T → T → A)
+      → f s.a.note s.b.note s.c.note ≡ f (note_of none (w.at a)) (note_of none (w.at b)) (note_of none (w.at c))
   by_notes none f = λ i. f (note_of none (sym k.first.0 i)) (note_of none (sym k.second.0 i)) (note_of none (sym k.third.0 i))

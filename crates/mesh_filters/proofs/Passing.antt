@@ -20,10 +20,15 @@ coordinate_abs (negsuc n) h = let l = leb-true n 99999 (and_parts (leb n 99999) 
 coordinate_bits : (z : ℤ) → coordinate z ≡ true → to_z w32 (of_z w32 z) ≡ z
 coordinate_bits z h = to_z-of_z w32 z (fits_signed_from_abs w32 z (let a = coordinate_abs z h in omega arith))
 
-pub coordinate_passed : (z : ℤ) → coordinate z ≡ true → coordinate (to_z w32 (of_z w32 z)) ≡ true
+coordinate_passed : (z : ℤ) → coordinate z ≡ true → coordinate (to_z w32 (of_z w32 z)) ≡ true
 coordinate_passed z h = ap coordinate (coordinate_bits z h) ∙ h
 
-pub distance_passed : (d a b : ℤ) → SFits w64 d → d ≡ to_z w32 (of_z w32 b) -ℤ to_z w32 (of_z w32 a) → coordinate a ≡ true → coordinate b ≡ true → to_z w64 (of_z w64 d) ≡ b -ℤ a
+pub both_passed : (a b : ℤ) → coordinate a ≡ true → coordinate b ≡ true
+    → (coordinate (to_z w32 (of_z w32 a)) ≡ true) × (coordinate (to_z w32 (of_z w32 b)) ≡ true)
+both_passed a b h k = (coordinate_passed a h, coordinate_passed b k)
+
+pub distance_passed : (d a b : ℤ) → SFits w64 d → d ≡ to_z w32 (of_z w32 b) -ℤ to_z w32 (of_z w32 a)
+    → coordinate a ≡ true → coordinate b ≡ true → to_z w64 (of_z w64 d) ≡ b -ℤ a
 distance_passed d a b f e h k = to_z-of_z w64 d f ∙ e ∙ (λ i. coordinate_bits b k i -ℤ coordinate_bits a h i)
 
 near_bits : (z : ℤ) → Near z → to_z w64 (of_z w64 z) ≡ z

@@ -9,7 +9,8 @@ use Rattle.mesh_filters.specs.Near.{Near}
 
 pub product_fits : (p q : ℤ) → Near p → Near q → SFits w64 (p *ℤ q)
 product_fits p q a b =
-    fits_signed_from_abs w64 (p *ℤ q) (let h : nat_abs p * nat_abs q ≤ 200000 * 200000 = mul-le-mul a.abs b.abs in omega (arith, unsigned_abs-mul p q))
+    let h : nat_abs p * nat_abs q ≤ 200000 * 200000 = mul-le-mul a.abs b.abs in
+    fits_signed_from_abs w64 (p *ℤ q) (omega (arith, unsigned_abs-mul p q))
 
 zero_is : (z : ℤ) → is_zero z ≡ true → z ≡ pos 0
 zero_is (pos n) h = ap pos (eqb-true n 0 h)

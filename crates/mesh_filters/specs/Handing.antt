@@ -12,21 +12,25 @@ use Rattle.mesh_judge.specs.Judging.{window_of, live_limit}
 use Rattle.mesh_layer.specs.Filtering.{Filtering}
 use Rattle.mesh_layer.specs.Machine.{runs_on}
 use Rattle.mesh_layer.specs.MachineLaw.{machine_filters}
-use Rattle.mesh_windows.specs.Windowing.{remembers, Work, moves_on, machine}
+use Rattle.mesh_windows.specs.Windowing.{Memory, remembers, Work, moves_on, machine}
 use Rattle.mesh_windows.specs.Patience.{machine_patient}
 
 abbrev pub events_of : Option Event → List Event
 events_of None = []
 events_of (Some e) = e ∷ []
 
--- What a filter makes of all that may still come from below, by its judge, by how many new numbers it gave, and with the events
--- in front that it still has to hand over.
-abbrev pub means : {T : Type 0} → LayerName → Work T → Judge T → ℕ → List Event → Outcome Event → Outcome Event
-means layer work j given owed = runs_on (machine (live_limit j) layer work) owed (remembers (window_of j) given)
+-- the memory of a filter, by its judge and by how many new numbers it gave
+abbrev pub memory_by : {T : Type 0} → Judge T → ℕ → Memory T
+memory_by j given = remembers (window_of j) given
 
-pub means_filters : {T : Type 0} (layer : LayerName) (work : Work T) (j : Judge T) (given : ℕ) (owed : List Event) → Filtering (means layer work j given owed)
+-- What it makes of all that may still come from below, with the events in front that it still has to hand over.
+abbrev pub means : {T : Type 0} → LayerName → Work T → Judge T → ℕ → List Event → Outcome Event → Outcome Event
+means layer work j given owed = runs_on (machine (live_limit j) layer work) owed (memory_by j given)
+
+pub means_filters : {T : Type 0} (layer : LayerName) (work : Work T) (j : Judge T) (given : ℕ) (owed : List Event)
+    → Filtering (means layer work j given owed)
 means_filters layer work j given owed =
-    machine_filters (machine (live_limit j) layer work) (machine_patient (live_limit j) layer work) owed (remembers (window_of j) given)
+    machine_filters (machine (live_limit j) layer work) (machine_patient (live_limit j) layer work) owed (memory_by j given)
 
 -- What is made of an event that is judged so, or the fault of the layer that refuses it.
 abbrev pub or_fault : {H : Type 0} → Result H Cause → LayerName → Event → Result H Fault
@@ -39,10 +43,11 @@ module _ {T : Type 0} (work : Work T) (j : Judge T) (given : ℕ) (e : Event) wh
   pub record HandsOver (out : List Event) (k : Judge T) (now : ℕ) : Type 0 where
     pub accepted : refuses (live_limit j) (window_of j) e ≡ None
     pub limit : live_limit k ≡ live_limit j
-    pub memory : remembers (window_of k) now ≡ moves_on work (remembers (window_of j) given) e
-    pub handed : out ≡ work.hands (remembers (window_of j) given) e
+    pub memory : memory_by k now ≡ moves_on work (memory_by j given) e
+    pub handed : out ≡ work.hands (memory_by j given) e
 
 -- The event is accepted, and what the rest lists is to be handed over for it; or it is refused for this cause.
-abbrev pub Handed : {T H : Type 0} → (H → List Event) → Work T → Judge T → ℕ → Event → Result H Cause → Judge T → ℕ → Type 0
+abbrev pub Handed : {T H : Type 0} → (H → List Event) → Work T → Judge T → ℕ → Event → Result H Cause
+    → Judge T → ℕ → Type 0
 Handed listed work j given e (Ok rest) k now = HandsOver work j given e (listed rest) k now
 Handed listed work j given e (Err c) k now = refuses (live_limit j) (window_of j) e ≡ Some c

@@ -120,13 +120,15 @@ module _ {T : Type 0} {n : ℕ} (t u : Table (Live T) n) (highest : ℕ) (sound 
       at k v e (inl p) = absurd (none-some v (sym (ap (record_at u) p ∙ c.here) ∙ e))
       at k v e (inr p) = kept_sound t highest sound k v (sym (c.other k p) ∙ e)
 
-  pub renoted_stray : (m : ℕ) (v : Live T) (x : T) → record_at t (vertex_key m) ≡ Some v → Sets t u (vertex_key m) (Some (record { place = v.place; at = v.at; note = x })) → Stray u highest → ⊥
+  pub renoted_stray : (m : ℕ) (v : Live T) (x : T) → record_at t (vertex_key m) ≡ Some v
+      → Sets t u (vertex_key m) (Some (record { place = v.place; at = v.at; note = x })) → Stray u highest → ⊥
   renoted_stray m v x f c = no_stray u highest (λ k y e. at k y e (key_cases k (vertex_key m)))
     where
       at : (k : Key) (y : Live T) → record_at u k ≡ Some y → (k ≡ vertex_key m) ⊎ (k ≡ vertex_key m → ⊥) → sound_record highest k y ≡ true
       at k y e (inl q) =
           let s : record { place = v.place; at = v.at; note = x } ≡ y = same_Some _ y (sym c.here ∙ ap (record_at u) (sym q) ∙ e) in
-          ap (λ (z : Live T). in_space z.at && leb k.first highest) (sym s) ∙ kept_sound t highest sound k v (ap (record_at t) q ∙ f)
+          ap (λ (z : Live T). in_space z.at && leb k.first highest) (sym s)
+          ∙ kept_sound t highest sound k v (ap (record_at t) q ∙ f)
       at k y e (inr q) = kept_sound t highest sound k y (sym (c.other k q) ∙ e)
 
 -- A new judge.
@@ -257,7 +259,8 @@ pub record Resets {T : Type 0} {n : ℕ} (t u : Table (Live T) n) (m : ℕ) (v x
   pub count : records u ≡ records t
   pub sets : Sets t u (vertex_key m) (Some x)
 
-pub resets : {T : Type 0} {n : ℕ} (t u : Table (Live T) n) (m : ℕ) (q : Key) (v x : Live T) (r : Bool) → q ≡ vertex_key m → Some v ≡ record_at t (vertex_key m) → Changed t u q x r → Resets t u m v x r
+pub resets : {T : Type 0} {n : ℕ} (t u : Table (Live T) n) (m : ℕ) (q : Key) (v x : Live T) (r : Bool)
+    → q ≡ vertex_key m → Some v ≡ record_at t (vertex_key m) → Changed t u q x r → Resets t u m v x r
 resets {T} t u m q v x true e f (s, c, h) = record {
   done = refl;
   found = sym f;
@@ -266,16 +269,21 @@ resets {T} t u m q v x true e f (s, c, h) = record {
 }
 resets t u m q v x false e f (s, h) = absurd (none-some v (sym s ∙ ap (record_at t) e ∙ sym f))
 
-pub renoted_judge : {T : Type 0} (j k : Judge T) (n : ℕ) (v : Live T) (x : T) (r : Bool) → Resets j.live k.live n v (record { place = v.place; at = v.at; note = x }) r → k.highest ≡ j.highest → k.triangles ≡ j.triangles → Renoted j n x r k
+pub renoted_judge : {T : Type 0} (j k : Judge T) (n : ℕ) (v : Live T) (x : T) (r : Bool)
+    → Resets j.live k.live n v (record { place = v.place; at = v.at; note = x }) r → k.highest ≡ j.highest → k.triangles ≡ j.triangles → Renoted j n x r k
 renoted_judge {T} j k n v x r s h t = record {
   live = s.done ∙ ap is_some (sym s.found);
   window = same ∙ ap (renotes (window_of j) n x) (sym s.found);
   limit = s.sets.limit;
-  by_list = λ es kn. subst (λ (l : ℕ). Knows l (window_of k) es) (sym s.sets.limit) (subst (λ (z : Window T). Knows (live_limit j) z es) (sym same) (knows_renoted (live_limit j) (window_of j) es kn n v x s.found));
+  by_list = λ es kn.
+      subst (λ (l : ℕ). Knows l (window_of k) es) (sym s.sets.limit)
+      (subst (λ (z : Window T). Knows (live_limit j) z es) (sym same) (knows_renoted (live_limit j) (window_of j) es kn n v x s.found));
 }
   where
     same : window_of k ≡ renoted (window_of j) n v x
-    same = windows_same (window_of k) (renoted (window_of j) n v x) (elsewhere j.live k.live n (Some (record { place = v.place; at = v.at; note = x })) s.sets) s.count h t
+    same =
+        windows_same (window_of k) (renoted (window_of j) n v x)
+        (elsewhere j.live k.live n (Some (record { place = v.place; at = v.at; note = x })) s.sets) s.count h t
 
 -- How it stands.
 

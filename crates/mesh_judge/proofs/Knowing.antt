@@ -337,7 +337,8 @@ module _ {T : Type 0} (limit : ℕ) (w : Window T) (es : List Event) (k : Knows 
       at m false q = k.at m ∙ sym (origin_same es (Finalization p i) m (other_live m q))
 
 -- something else noted of a vertex
-pub knows_renoted : {T : Type 0} (limit : ℕ) (w : Window T) (es : List Event) → Knows limit w es → (n : ℕ) (v : Live T) (x : T) → w.at n ≡ Some v → Knows limit (renoted w n v x) es
+pub knows_renoted : {T : Type 0} (limit : ℕ) (w : Window T) (es : List Event) → Knows limit w es
+    → (n : ℕ) (v : Live T) (x : T) → w.at n ≡ Some v → Knows limit (renoted w n v x) es
 knows_renoted {T} limit w es k n v x e = record {
   accepted = k.accepted;
   at = λ m. at m (eqb m n) refl;
@@ -346,7 +347,10 @@ knows_renoted {T} limit w es k n v x e = record {
   triangles = k.triangles;
 }
   where
-    at : (m : ℕ) (b : Bool) → eqb m n ≡ b → origin (cond b (Some (record { place = v.place; at = v.at; note = x })) (w.at m)) ≡ origin_in es m
+    renewed : Live T
+    renewed = record { place = v.place; at = v.at; note = x }
+
+    at : (m : ℕ) (b : Bool) → eqb m n ≡ b → origin (cond b (Some renewed) (w.at m)) ≡ origin_in es m
     at m true q = ap origin (sym e) ∙ ap (λ (z : ℕ). origin (w.at z)) (sym (eqb-true m n q)) ∙ k.at m
     at m false q = k.at m
 

@@ -6,4 +6,7 @@ use Rattle.mesh_filters.proofs.Handing.{takes}
 use Rattle.mesh_filters.proofs.check.filter.CheckFilter.take.Goals as goal
 
 pub returns : goal.returns
-returns c = rw c.or_fault.ensures (takes Checking check_work c.args.self.now.judge 0 events_of None refl c.args.item c.judged.result c.judged.new.self.judge 0 c.judged.ensures)
+returns c =
+    let j = c.args.self.now.judge in
+    let k = c.judged.new.self.judge in
+    rw c.or_fault.ensures (takes Checking check_work j 0 events_of None refl c.args.item c.judged.result k 0 c.judged.ensures)

@@ -7,4 +7,5 @@ use Rattle.mesh_filters.proofs.compact.filter.CompactFilter.take.Goals as goal
 
 pub returns : goal.returns
 returns c =
-    rw c.or_fault.ensures (takes Compacting compact_work c.args.self.now.judge c.args.self.now.given listed nothing refl c.args.item c.judged.result c.judged.new.self.judge c.judged.new.self.given c.judged.ensures)
+    rw c.or_fault.ensures (takes Compacting compact_work c.args.self.now.judge c.args.self.now.given listed nothing refl c.args.item
+    c.judged.result c.judged.new.self.judge c.judged.new.self.given c.judged.ensures)

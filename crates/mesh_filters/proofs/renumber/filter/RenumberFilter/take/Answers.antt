@@ -9,4 +9,5 @@ pub returns : goal.returns
 returns c =
     let f = c.args.self.now in
     let n = c.judged.new.self in
-    rw c.or_fault.ensures (takes Renumbering renumber_work f.judge f.given events_of None refl c.args.item c.judged.result n.judge n.given c.judged.ensures)
+    rw c.or_fault.ensures
+    (takes Renumbering renumber_work f.judge f.given events_of None refl c.args.item c.judged.result n.judge n.given c.judged.ensures)
