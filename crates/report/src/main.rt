@@ -1,26 +1,33 @@
-// Reads a mesh text from standard input and prints the report on its events.
+// Reads a mesh text from standard input, and prints the report on what check, clean and compact make of its events.
 #![tactic(auto)]
 
-ghost use Rattle.std.specs.Prelude.{◌≡◌, IfOk, IfSome, OnOk};
-ghost use Rattle.mesh_stream.specs.Meaning.{closed};
-ghost use Rattle.mesh_reader.specs.Reading.{reading};
-ghost use Rattle.mesh_report.specs.Reporting.{reported};
-ghost use Rattle.mesh_report.specs.Streaming.{Finished, report_of};
+ghost use Rattle.std.specs.Prelude.{◌≡◌, ℕ, List, IfOk, IfSome, OnOk};
+ghost use Rattle.mesh_stream.specs.declared.event.Event.{Event as MeshEvent};
+ghost use Rattle.mesh_stream.specs.Meaning.{Outcome};
+ghost use Rattle.mesh_report.specs.Streaming.{WillSay, Finished, report_of};
+ghost use Rattle.mesh_piles.specs.Texts.{text_outcome};
 ghost use Rattle.std.specs.Io.KnownBytes.{Appends};
 
+use mesh_piles::text_report::text_report;
 use mesh_report::report::Report;
-use mesh_report::stream_report::text::text_report;
+use mesh_report::stream_report::StreamReport;
+use mesh_stream::event::Event;
+use mesh_stream::stage::Inlet;
 use std::io;
 use std::io::{Read, Write};
 
 // How much of the text is read at a time.
 const PIECE: usize = 16_384;
 
-// Pushes the input piece by piece until it ends.
-fn report_on<R: Read>(input: &mut R) -> io::Result<Report>
-    ensures { IfSome (R.Read.remaining input.old) (λ text. IfOk result (λ report. Finished report (reported (reading text closed)))) }
+// Pushes the input piece by piece until it ends, and answers the finished report: whatever the report says of each text, it now says
+// of this one.
+fn report_on<R: Read, S: Inlet<Item = Event> + Drop>(
+    input: &mut R,
+    mut report: StreamReport<S>,
+) -> io::Result<Report>
+    ensures { (says : List ℕ → Outcome MeshEvent) → ((t : List ℕ) → WillSay S.Stage.meaning report t (says t))
+        → IfSome (R.Read.remaining input.old) (λ text. IfOk result (λ finished. Finished finished (says text))) }
 {
-    let mut report = text_report();
     let mut piece = [0; PIECE];
     for _ in 0..u64::MAX {
         let length = input.read(&mut piece)?;
@@ -32,11 +39,18 @@ fn report_on<R: Read>(input: &mut R) -> io::Result<Report>
     Err(io::Error::other("the text does not end"))
 }
 
+// The report on the text that the input gives.
+fn report_on_text<R: Read>(input: &mut R) -> io::Result<Report>
+    ensures { IfSome (R.Read.remaining input.old) (λ text. IfOk result (λ report. Finished report (text_outcome text))) }
+{
+    report_on(input, text_report())
+}
+
 // Prints the report on the text that the input gives.
 fn print_report<R: Read, W: Write>(input: &mut R, out: &mut W) -> anyhow::Result<()>
-    ensures { IfSome (R.Read.remaining input.old) (λ text. OnOk result (Appends (W.Write.contents out.old) (W.Write.contents out.new) (report_of (reported (reading text closed))))) }
+    ensures { IfSome (R.Read.remaining input.old) (λ text. OnOk result (Appends (W.Write.contents out.old) (W.Write.contents out.new) (report_of (text_outcome text)))) }
 {
-    let report = report_on(input)?;
+    let report = report_on_text(input)?;
     let mut text = [0; 256];
     let length = report.spell(&mut text)?;
     out.write_all(&text[0..length])?;
