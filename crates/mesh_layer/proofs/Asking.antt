@@ -1,7 +1,7 @@
 -- What a layer took of the stage below while it asked.
-use Rattle.std.proofs.Common.{◌≡◌, ◌⊎◌, ℕ, List, [], ◌∷◌, ◌++◌, sym, refl, ap, ◌∙◌, inl, inr, subst, Some, None, Option, append_assoc, append-nil}
+use Rattle.std.proofs.Common.{◌≡◌, ◌⊎◌, ℕ, List, [], ◌∷◌, ◌++◌, sym, refl, ap, ◌∙◌, inl, inr, subst, None, Option, append_assoc, append-nil}
 use Rattle.mesh_stream.specs.declared.fault.Fault.{Fault}
-use Rattle.mesh_stream.specs.declared.stage.Standing.TheVariants.{Waiting, Faulty}
+use Rattle.mesh_stream.specs.declared.stage.Standing.TheVariants.{Waiting}
 use Rattle.mesh_stream.specs.Meaning.{Mark, Outcome, outcome, prepend, Meaning, Port, textless, open_for, shut}
 use Rattle.mesh_stream.specs.Calls.{SameKind}
 use Rattle.mesh_stream.specs.Runs.{prepends}
@@ -88,28 +88,15 @@ module _ {I O : Type 0} (F E B D : Outcome I → Outcome O) (fault : Option Faul
       let plain : (o : Outcome I) → unless_faulty fault E o ≡ B o = λ o. faultless fault E e o ∙ same o in
       asked_more F (unless_faulty fault E) D G H K i a (plain (outcome [] Waiting) ∙ w) first (λ o. plain (prepend i o) ∙ takes o)
 
--- The layer l, one item after the layer `before`; it was not at fault and had nothing to hand over, so it asked and was given an item.
-module _ {S F I O R : Type 0} (f : FilterGhosts F I O R) (before l : Layer S F I O R) (g : F) (rest : R) (G H K : Meaning I) (i : I) (s : S) where
-  asked : (D : Outcome I → Outcome O) → Asking (makes f before) (makes f l) G H → l.fault ≡ None → Gives f.empty (f.rewrites l.filter) l.rest None rest (f.rewrites g)
-      → f.rewrites g f.empty (outcome [] Waiting) ≡ outcome [] Waiting → ((t : List ℕ) (m : Mark) → H t m ≡ prepend i (K t m))
-      → ((o : Outcome I) → f.rewrites g f.empty (prepend i o) ≡ D o) → Asking (makes f before) D G K
-  asked D a none given waits first takes =
-      asked_step (makes f before) (f.rewrites l.filter l.rest) (f.rewrites g f.empty) D l.fault G H K i a none
-      (λ o. given.0 o ∙ ap (λ r. f.rewrites g r o) given.1) waits first takes
-
-  pub asked_and_took : (h : F) (more : R) → Asking (makes f before) (makes f l) G H → l.fault ≡ None → Gives f.empty (f.rewrites l.filter) l.rest None rest (f.rewrites g)
-      → f.rewrites g f.empty (outcome [] Waiting) ≡ outcome [] Waiting → ((t : List ℕ) (m : Mark) → H t m ≡ prepend i (K t m))
-      → ((o : Outcome I) → f.rewrites g f.empty (prepend i o) ≡ f.rewrites h more o)
-      → Asking (makes f before) (makes f (record { below = s; filter = h; rest = more; fault = l.fault })) G K
-  asked_and_took h more a none given waits first takes =
-      asked (makes f (record { below = s; filter = h; rest = more; fault = l.fault })) a none given waits first (λ o. takes o ∙ sym (faultless l.fault (f.rewrites h more) none o))
-
-  pub asked_and_fell : (h : F) (r : R) (fault : Fault) → Asking (makes f before) (makes f l) G H → l.fault ≡ None → Gives f.empty (f.rewrites l.filter) l.rest None rest (f.rewrites g)
-      → f.rewrites g f.empty (outcome [] Waiting) ≡ outcome [] Waiting → ((t : List ℕ) (m : Mark) → H t m ≡ prepend i (K t m))
-      → ((o : Outcome I) → f.rewrites g f.empty (prepend i o) ≡ outcome [] (Faulty fault))
-      → Asking (makes f before) (makes f (record { below = s; filter = h; rest = r; fault = Some fault })) G K
-  asked_and_fell h r fault a none given waits first takes =
-      asked (makes f (record { below = s; filter = h; rest = r; fault = Some fault })) a none given waits first takes
+-- The layer l came after the layer `before`; it was not at fault and had nothing to hand over, so it asked and was given an item. The stage
+-- below was s then, and n is the one below the layer that took the item.
+pub asked : {S F I O R : Type 0} (f : FilterGhosts F I O R) (means : S → Meaning I) (before l : Layer S F I O R) (g : F) (rest : R) (i : I) (s n : S) (D : Outcome I → Outcome O) (G H : Meaning I)
+    → Asking (makes f before) (makes f l) G H → l.fault ≡ None → Gives f.empty (f.rewrites l.filter) l.rest None rest (f.rewrites g)
+    → ((t : List ℕ) (m : Mark) → H t m ≡ prepend i (means s t m)) → n ≡ s → ((o : Outcome I) → f.rewrites g f.empty (prepend i o) ≡ D o)
+    → Asking (makes f before) D G (means n)
+asked f means before l g rest i s n D G H a none given first e takes =
+    asked_step (makes f before) (f.rewrites l.filter l.rest) (f.rewrites g f.empty) D l.fault G H (means n) i a none
+    (λ o. given.0 o ∙ ap (λ r. f.rewrites g r o) given.1) (f.waits g) (λ t m. first t m ∙ ap (λ z. prepend i (means z t m)) (sym e)) takes
 
 pub same_kind_trans : (p q r : Port) → SameKind p q → SameKind q r → SameKind p r
 same_kind_trans textless q r a b = subst (λ z. SameKind z r) a b

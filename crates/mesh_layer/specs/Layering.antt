@@ -1,6 +1,7 @@
 -- What a layer means, and that a filter over a lawful stage is a lawful stage.
 use Rattle.mesh_stream.specs.declared.stage.Stage.{Ghosts as StageGhosts}
-use Rattle.mesh_stream.specs.Meaning.{Outcome}
+use Rattle.std.specs.Prelude.{◌≡◌, Some, None, Option}
+use Rattle.mesh_stream.specs.Meaning.{Outcome, prepend}
 use Rattle.mesh_stream.specs.Runs.{View, viewed}
 use Rattle.mesh_layer.specs.declared.filter.Filter.{Ghosts as FilterGhosts}
 use Rattle.mesh_layer.specs.declared.layer.Layer.{Layer}
@@ -19,3 +20,8 @@ abbrev pub seen_through : {S F I O R : Type 0} → StageGhosts S I → FilterGho
 seen_through stage filter l = viewed (stage.port l.below)
     (λ t m. makes filter l (stage.meaning l.below t m))
     (layered_lawful (unless_faulty_filters l.fault (filter.filters l.filter l.rest)) (stage.lawful l.below))
+
+-- The filter of a layer that had handed over all took an item, and this is the first of what is to be handed over for it, if anything is.
+abbrev pub Took : {S F I O R : Type 0} → FilterGhosts F I O R → Layer S F I O R → I → Option O → Layer S F I O R → Type 0
+Took filter old i (Some x) new = (o : Outcome _) → filter.rewrites old.filter filter.empty (prepend i o) ≡ prepend x (makes filter new o)
+Took filter old i None new = (o : Outcome _) → filter.rewrites old.filter filter.empty (prepend i o) ≡ makes filter new o

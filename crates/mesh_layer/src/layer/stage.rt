@@ -1,10 +1,32 @@
+ghost use Rattle.std.specs.Prelude.{◌≡◌, None};
 ghost use Rattle.mesh_stream.specs.Calls.{Nexted};
 ghost use Rattle.mesh_layer.specs.Filtering.{Asks};
-ghost use Rattle.mesh_layer.specs.Layering.{makes, seen_through};
+ghost use Rattle.mesh_layer.specs.Layering.{makes, seen_through, Took};
 
 use super::Layer;
 use crate::filter::Filter;
 use mesh_stream::stage::{Stage, Standing};
+
+impl<S: Stage, F: Filter<In = S::Item>> Layer<S, F> {
+    // Has the filter take an item, and answers the first of what is to be handed over for it. A fault is kept.
+    fn take(&mut self, item: S::Item) -> Option<F::Out>
+        requires { self.old.fault ≡ None }
+        ensures below { self.new.below ≡ self.old.below }
+        ensures took { Took F.Filter self.old item result self.new }
+    {
+        match self.filter.take(item) {
+            Ok(mut rest) => {
+                let first = self.filter.give(&mut rest);
+                self.rest = rest;
+                first
+            }
+            Err(fault) => {
+                self.fault = Some(fault);
+                None
+            }
+        }
+    }
+}
 
 impl<S: Stage, F: Filter<In = S::Item>> Stage for Layer<S, F> {
     type Item = F::Out;
@@ -28,10 +50,11 @@ impl<S: Stage, F: Filter<In = S::Item>> Stage for Layer<S, F> {
                 return Ok(item);
             }
             match self.below.next() {
-                Ok(item) => match self.filter.take(item) {
-                    Ok(rest) => self.rest = rest,
-                    Err(fault) => self.fault = Some(fault),
-                },
+                Ok(item) => {
+                    if let Some(first) = self.take(item) {
+                        return Ok(first);
+                    }
+                }
                 Err(below) => return Err(self.filter.stand(below)),
             }
         }
