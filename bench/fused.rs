@@ -1,5 +1,5 @@
-// The job of the program `report` - read, check, clean, compact and report - written by hand as one loop without layers. It is the bar
-// for the library's speed and is proved to do nothing. Built with `rustc -O --edition 2021`.
+// The job of the program `report` (read, check, clean, compact and report), written by hand as one loop without layers. It is the bar
+// for the library's speed. Nothing is proved of it. Built with `rustc -O --edition 2021`.
 
 use std::io::{self, Read};
 
@@ -30,7 +30,8 @@ enum Line {
     Nothing,
 }
 
-// What stands in front of a text, and the text behind it; None where it is not there or not in range.
+// What stands in front of a text, and the text behind it; None where it is not there or not in range. What reads it is inlined: the
+// compiler alone does not, and then it takes a tenth longer.
 type Parsed<'a, T> = Option<(T, &'a [u8])>;
 
 fn is_blank(byte: u8) -> bool {
@@ -53,6 +54,7 @@ fn next_word(text: &[u8]) -> Option<&[u8]> {
 }
 
 // A number of 1 to 9 digits.
+#[inline(always)]
 fn digits(text: &[u8]) -> Parsed<'_, u32> {
     let mut number = 0u32;
     let mut rest = text;
@@ -63,6 +65,7 @@ fn digits(text: &[u8]) -> Parsed<'_, u32> {
     (1..=9).contains(&(text.len() - rest.len())).then_some((number, rest))
 }
 
+#[inline(always)]
 fn distance(text: &[u8]) -> Parsed<'_, i32> {
     let (size, rest) = digits(text)?;
     (size <= FARTHEST).then_some((size as i32, rest))
@@ -76,6 +79,7 @@ fn coordinate(text: &[u8]) -> Parsed<'_, i32> {
     }
 }
 
+#[inline(always)]
 fn vertex_number(text: &[u8]) -> Parsed<'_, u32> {
     let (number, rest) = digits(next_word(text)?)?;
     (1..=HIGHEST_VERTEX).contains(&number).then_some((number, rest))
@@ -89,6 +93,7 @@ fn line_end(text: &[u8]) -> Option<&[u8]> {
 }
 
 // The first line of a text that has a line end and no blank in front; None if that line is at fault.
+#[inline(always)]
 fn line(text: &[u8]) -> Parsed<'_, Line> {
     match text {
         [b'v', rest @ ..] => {
