@@ -31,8 +31,17 @@ AreCalls (o ∷ os) [] cs = ⊥
 AreCalls (o ∷ os) (r ∷ rs) [] = ⊥
 AreCalls (o ∷ os) (r ∷ rs) (c ∷ cs) = IsCall o r c × AreCalls os rs cs
 
+-- The order was obeyed: this call led from v to w.
 abbrev pub Obeyed : View Event → Order → Reply Event → View Event → Type 0
-Obeyed v o r w = (c : Call Event) × IsCall o r c × Step v c w
+Obeyed v (Feed piece) (Fed r) w = Step v (feeds piece.now r) w
+Obeyed v (Feed piece) (Closed r) w = ⊥
+Obeyed v (Feed piece) (Gave r) w = ⊥
+Obeyed v Close (Fed r) w = ⊥
+Obeyed v Close (Closed r) w = Step v (closes r) w
+Obeyed v Close (Gave r) w = ⊥
+Obeyed v Next (Fed r) w = ⊥
+Obeyed v Next (Closed r) w = ⊥
+Obeyed v Next (Gave r) w = Step v (asks r) w
 
 -- Whatever layers the pile is of, and whatever its bottom, this run of it keeps the law.
 abbrev pub LawfulRun : View Event → List (Call Event) → View Event → Type 0

@@ -9,7 +9,7 @@ use mesh_stream::stage::{Stage, Standing};
 
 impl<S: Stage, F: Filter<In = S::Item>> Layer<S, F> {
     // Has the filter take an item, and answers the first of what is to be handed over for it. A fault is kept.
-    fn take(&mut self, item: S::Item) -> Option<F::Out>
+    fn take_in(&mut self, item: S::Item) -> Option<F::Out>
         requires { self.old.fault ≡ None }
         ensures below { self.new.below ≡ self.old.below }
         ensures took { Took F.Filter self.old item result self.new }
@@ -51,7 +51,7 @@ impl<S: Stage, F: Filter<In = S::Item>> Stage for Layer<S, F> {
             }
             match self.below.next() {
                 Ok(item) => {
-                    if let Some(first) = self.take(item) {
+                    if let Some(first) = self.take_in(item) {
                         return Ok(first);
                     }
                 }

@@ -1,7 +1,7 @@
 use Rattle.std.proofs.Common.{◌≡◌, ℕ, ◌∷◌, [], ◌++◌, length-set, take, subst, ◌∙◌, arith}
 use Rattle.std.proofs.lemmas.List.{drop-set-lt}
 use Rattle.mesh_layer.specs.Ordering.{AreCalls}
-use Rattle.mesh_layer.proofs.Runs.{run_push, calls_more, lawful_run}
+use Rattle.mesh_layer.proofs.Runs.{run_push, calls_more, lawful_run, call_of}
 use Rattle.mesh_layer.proofs.work.work_off.Goals as goal
 
 pub loop-i-preserved : goal.loop-i-preserved
@@ -9,7 +9,7 @@ loop-i-preserved g c =
     let i = c.loop-i.i in
     let log = c.loop-i.log in
     let (same, rest, (cs, called, run)) = c.loop-i.invariant in
-    let (call, is, step) = c.obey.ensures in
+    let (call, is, step) = call_of (seen g.P.Stage c.loop-i.pile) _ c.obey.result (seen g.P.Stage c.obey.new.pile) c.obey.ensures in
     let test = c.loop-i-test.true in
     let count = c.min-count.ensures in (
       length-set log i c.obey.result ∙ same,
