@@ -9,20 +9,11 @@ use Rattle.mesh_stream.specs.Live.{live, is_live, width_after}
 use Rattle.mesh_stream.proofs.Having.{has_filter, kept_yes, kept_no}
 use Rattle.mesh_stream.proofs.Views.{finalized_v, finalized_t, finalized_f}
 use Rattle.mesh_stream.proofs.Distinct.{Distinct, distinct_push}
-use Rattle.mesh_judge.specs.Accepting.{Rules, refusal, Accepted, AcceptedAfter}
+use Rattle.mesh_judge.specs.Accepting.{refusal, Accepted, AcceptedAfter}
 use Rattle.mesh_judge.proofs.Refusing.{triangle_ok, final_ok}
 use Rattle.mesh_judge.proofs.Living.{live_introduced}
+use Rattle.mesh_rules.proofs.Beginnings.{accepted_parts}
 use Rattle.mesh_layer.specs.Law.{WellFormed, ClosedOff}
-
--- A beginning of an accepted list is accepted, and each event is, after those before it.
-pub accepted_front : (rules : Rules) (xs ys before : List Event) → AcceptedAfter rules before (xs ++ ys) → AcceptedAfter rules before xs
-accepted_front rules [] ys before h = tt
-accepted_front rules (x ∷ xs) ys before (a, h) = (a, accepted_front rules xs ys (before ++ (x ∷ [])) h)
-
-accepted_at : (rules : Rules) (xs : List Event) (e : Event) (ys before : List Event) → AcceptedAfter rules before (xs ++ (e ∷ ys)) → rules (before ++ xs) e ≡ None
-accepted_at rules [] e ys before (a, h) = ap (λ (z : List Event). rules z e) (append-nil before) ∙ a
-accepted_at rules (x ∷ xs) e ys before (a, h) =
-    ap (λ (z : List Event). rules z e) (sym (append_assoc before (x ∷ []) xs)) ∙ accepted_at rules xs e ys (before ++ (x ∷ [])) h
 
 -- What is live was introduced, and is not finalized.
 not_final : (es : List Event) (n : ℕ) → is_live es n ≡ true → has n (finalized es) ≡ false
@@ -47,7 +38,8 @@ corner_live es a b c n x y z h = elim (or_cases _ _ h) [
 
 pub well_formed : (limit : ℕ) (es : List Event) → Accepted (refusal limit) es → WellFormed es
 well_formed limit es h before after p a b c n e k =
-    let ok = triangle_ok limit before p a b c (accepted_at (refusal limit) before (Triangle p a b c) after [] (subst (Accepted (refusal limit)) e h)) in
+    let parts = accepted_parts (refusal limit) before (Triangle p a b c ∷ after) [] (subst (Accepted (refusal limit)) e h) in
+    let ok = triangle_ok limit before p a b c parts.1.0 in
     let l = corner_live before a b c n ok.first ok.second ok.third k in
     (live_introduced before n l, not_final before n l)
 

@@ -1,6 +1,7 @@
 -- What a layer means, and that a filter over a lawful stage is a lawful stage.
+use Rattle.std.specs.Prelude.{◌≡◌, ℕ, List}
 use Rattle.mesh_stream.specs.declared.stage.Stage.{Ghosts as StageGhosts}
-use Rattle.mesh_stream.specs.Meaning.{Outcome}
+use Rattle.mesh_stream.specs.Meaning.{Mark, Outcome}
 use Rattle.mesh_stream.specs.Runs.{View, viewed}
 use Rattle.mesh_layer.specs.declared.filter.Filter.{Ghosts as FilterGhosts}
 use Rattle.mesh_layer.specs.declared.layer.Layer.{Layer}
@@ -19,3 +20,8 @@ abbrev pub seen_through : {S F I O R : Type 0} → StageGhosts S I → FilterGho
 seen_through stage filter l = viewed (stage.port l.below)
     (λ t m. makes filter l (stage.meaning l.below t m))
     (layered_lawful (unless_faulty_filters l.fault (filter.filters l.filter l.rest)) (stage.lawful l.below))
+
+-- What is seen as w takes text as v does, and makes F of all that v gives.
+pub record Made {I O : Type 0} (F : Outcome I → Outcome O) (v : View I) (w : View O) : Type 0 where
+  pub port_same : w.port ≡ v.port
+  pub means : (t : List ℕ) (m : Mark) → w.means t m ≡ F (v.means t m)
