@@ -14,6 +14,6 @@ loop-self-preserved-in-Ok-take g c = (
 pub loop-self-preserved : goal.loop-self-preserved
 loop-self-preserved g c = (
   asked_and_fell g.F.Filter c.args.self.now c.loop-self.self c.give.new.self c.give.new.rest _ _ _ c.in-Ok.item c.next.new.self c.take.new.self c.give.new.rest c.in-Err-take.fault
-      c.loop-self.invariant.0 c.in_default.is c.in_default-give.ensures (g.F.Filter.waits c.give.new.self) c.in-Ok.ensures.first c.in-Err-take.ensures,
+      c.loop-self.invariant.0 c.in_default.is c.in_default-give.ensures (g.F.Filter.waits c.give.new.self) c.in-Ok.ensures.first c.in-Err-take.ensures.0,
   same_kind_trans _ _ _ c.loop-self.invariant.1 c.in-Ok.ensures.port_kept,
 )
