@@ -77,12 +77,14 @@ module _ {I O : Type 0} (F : Outcome I → Outcome O) where
       ]
 
 -- A layer that is not at fault is its filter.
-pub faultless : {I O : Type 0} (fault : Option Fault) (E : Outcome I → Outcome O) → fault ≡ None → (o : Outcome I) → unless_faulty fault E o ≡ E o
+pub faultless : {I O : Type 0} (fault : Option Fault) (E : Outcome I → Outcome O) → fault ≡ None → (o : Outcome I)
+    → unless_faulty fault E o ≡ E o
 faultless fault E e o = ap (λ f. unless_faulty f E o) e
 
 -- The filter had nothing to hand over, so the layer asked, and was given an item.
 module _ {I O : Type 0} (F E B D : Outcome I → Outcome O) (fault : Option Fault) (G H K : Meaning I) (i : I) where
-  pub asked_step : Asking F (unless_faulty fault E) G H → fault ≡ None → ((o : Outcome I) → E o ≡ B o) → B (outcome [] Waiting) ≡ outcome [] Waiting
+  pub asked_step : Asking F (unless_faulty fault E) G H → fault ≡ None → ((o : Outcome I) → E o ≡ B o)
+      → B (outcome [] Waiting) ≡ outcome [] Waiting
       → ((t : List ℕ) (m : Mark) → H t m ≡ prepend i (K t m)) → ((o : Outcome I) → B (prepend i o) ≡ D o) → Asking F D G K
   asked_step a e same w first takes =
       let plain : (o : Outcome I) → unless_faulty fault E o ≡ B o = λ o. faultless fault E e o ∙ same o in
@@ -90,21 +92,25 @@ module _ {I O : Type 0} (F E B D : Outcome I → Outcome O) (fault : Option Faul
 
 -- The layer l, one item after the layer `before`; it was not at fault and had nothing to hand over, so it asked and was given an item.
 module _ {S F I O R : Type 0} (f : FilterGhosts F I O R) (before l : Layer S F I O R) (g : F) (rest : R) (G H K : Meaning I) (i : I) (s : S) where
-  asked : (D : Outcome I → Outcome O) → Asking (makes f before) (makes f l) G H → l.fault ≡ None → Gives f.empty (f.rewrites l.filter) l.rest None rest (f.rewrites g)
+  asked : (D : Outcome I → Outcome O) → Asking (makes f before) (makes f l) G H → l.fault ≡ None
+      → Gives f.empty (f.rewrites l.filter) l.rest None rest (f.rewrites g)
       → f.rewrites g f.empty (outcome [] Waiting) ≡ outcome [] Waiting → ((t : List ℕ) (m : Mark) → H t m ≡ prepend i (K t m))
       → ((o : Outcome I) → f.rewrites g f.empty (prepend i o) ≡ D o) → Asking (makes f before) D G K
   asked D a none given waits first takes =
       asked_step (makes f before) (f.rewrites l.filter l.rest) (f.rewrites g f.empty) D l.fault G H K i a none
       (λ o. given.0 o ∙ ap (λ r. f.rewrites g r o) given.1) waits first takes
 
-  pub asked_and_took : (h : F) (more : R) → Asking (makes f before) (makes f l) G H → l.fault ≡ None → Gives f.empty (f.rewrites l.filter) l.rest None rest (f.rewrites g)
+  pub asked_and_took : (h : F) (more : R) → Asking (makes f before) (makes f l) G H → l.fault ≡ None
+      → Gives f.empty (f.rewrites l.filter) l.rest None rest (f.rewrites g)
       → f.rewrites g f.empty (outcome [] Waiting) ≡ outcome [] Waiting → ((t : List ℕ) (m : Mark) → H t m ≡ prepend i (K t m))
       → ((o : Outcome I) → f.rewrites g f.empty (prepend i o) ≡ f.rewrites h more o)
       → Asking (makes f before) (makes f (record { below = s; filter = h; rest = more; fault = l.fault })) G K
   asked_and_took h more a none given waits first takes =
-      asked (makes f (record { below = s; filter = h; rest = more; fault = l.fault })) a none given waits first (λ o. takes o ∙ sym (faultless l.fault (f.rewrites h more) none o))
+      asked (makes f (record { below = s; filter = h; rest = more; fault = l.fault })) a none given waits first
+      (λ o. takes o ∙ sym (faultless l.fault (f.rewrites h more) none o))
 
-  pub asked_and_fell : (h : F) (r : R) (fault : Fault) → Asking (makes f before) (makes f l) G H → l.fault ≡ None → Gives f.empty (f.rewrites l.filter) l.rest None rest (f.rewrites g)
+  pub asked_and_fell : (h : F) (r : R) (fault : Fault) → Asking (makes f before) (makes f l) G H → l.fault ≡ None
+      → Gives f.empty (f.rewrites l.filter) l.rest None rest (f.rewrites g)
       → f.rewrites g f.empty (outcome [] Waiting) ≡ outcome [] Waiting → ((t : List ℕ) (m : Mark) → H t m ≡ prepend i (K t m))
       → ((o : Outcome I) → f.rewrites g f.empty (prepend i o) ≡ outcome [] (Faulty fault))
       → Asking (makes f before) (makes f (record { below = s; filter = h; rest = r; fault = Some fault })) G K

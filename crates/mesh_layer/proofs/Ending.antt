@@ -63,6 +63,7 @@ module _ (rules : Rules) (layer : LayerName) where
   pub ended_leaves_none : (o : Outcome Event) → (judged layer rules o).stands ≡ Ended → live (accepted rules o.items) ≡ []
   ended_leaves_none o h = at (stop_after rules [] o.items) refl h
     where
-      at : (s : Option Stop) → stop_after rules [] o.items ≡ s → stands_by layer s o.items o.stands ≡ Ended → live (accepted rules o.items) ≡ []
+      at : (s : Option Stop) → stop_after rules [] o.items ≡ s → stands_by layer s o.items o.stands ≡ Ended
+          → live (accepted rules o.items) ≡ []
       at None e k = ap live (all_accepted rules o.items (not_stopped rules o.items [] e)) ∙ over_ended o.items o.stands k
       at (Some s) e k = cc

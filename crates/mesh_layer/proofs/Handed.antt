@@ -44,7 +44,8 @@ well_formed limit es h before after p a b c n e k =
     (live_introduced before n l, not_final before n l)
 
 -- No vertex is finalized twice.
-distinct_after : (limit : ℕ) (es before : List Event) → Distinct (finalized before) → AcceptedAfter (refusal limit) before es → Distinct (finalized (before ++ es))
+distinct_after : (limit : ℕ) (es before : List Event) → Distinct (finalized before) → AcceptedAfter (refusal limit) before es
+    → Distinct (finalized (before ++ es))
 distinct_after limit [] before d h = subst (λ (z : List Event). Distinct (finalized z)) (sym (append-nil before)) d
 distinct_after limit (e ∷ es) before d (a, h) =
     subst (λ (z : List Event). Distinct (finalized z)) (append_assoc before (e ∷ []) es) (distinct_after limit es (before ++ (e ∷ [])) (step e a) h)
@@ -52,7 +53,8 @@ distinct_after limit (e ∷ es) before d (a, h) =
     step : (x : Event) → refusal limit before x ≡ None → Distinct (finalized (before ++ (x ∷ [])))
     step (Vertex l n v) r = subst Distinct (sym (finalized_v before l n v)) d
     step (Triangle l i j k) r = subst Distinct (sym (finalized_t before l i j k)) d
-    step (Finalization l i) r = subst Distinct (sym (finalized_f before l i)) (distinct_push (finalized before) i d (not_final before i (final_ok limit before l i r)))
+    step (Finalization l i) r =
+        subst Distinct (sym (finalized_f before l i)) (distinct_push (finalized before) i d (not_final before i (final_ok limit before l i r)))
 
 none_counted : (n : ℕ) (xs : List ℕ) → has n xs ≡ false → length (filter (λ m. eqb n m) xs) ≡ 0
 none_counted n [] h = refl
@@ -64,14 +66,17 @@ counted_once n (x ∷ xs) (a, d) h = at (eqb n x) refl (counted_once n xs d)
   where
     at : (b : Bool) → eqb n x ≡ b → (has n xs ≡ true → length (filter (λ m. eqb n m) xs) ≡ 1) → length (filter (λ m. eqb n m) (x ∷ xs)) ≡ 1
     at true e ih = ap length (kept_yes (λ m. eqb n m) x xs e) ∙ ap suc (none_counted n xs (ap (λ z. has z xs) (eqb-true n x e) ∙ a))
-    at false e ih = ap length (kept_no (λ m. eqb n m) x xs e) ∙ ih (elim (or_cases (eqb n x) (has n xs) h) [ inl t ↦ absurd (both_ways (eqb n x) e t) | inr k ↦ k ])
+    at false e ih =
+        ap length (kept_no (λ m. eqb n m) x xs e)
+        ∙ ih (elim (or_cases (eqb n x) (has n xs) h) [ inl t ↦ absurd (both_ways (eqb n x) e t) | inr k ↦ k ])
 
 pub closed_off : (limit : ℕ) (es : List Event) → Accepted (refusal limit) es → live es ≡ [] → ClosedOff es
 closed_off limit es h l n i = counted_once n (finalized es) (distinct_after limit es [] tt h) (at (has n (finalized es)) refl)
   where
     at : (b : Bool) → has n (finalized es) ≡ b → has n (finalized es) ≡ true
     at true e = e
-    at false e = absurd (both_ways false refl (ap (has n) (sym l) ∙ has_filter (λ m. not (has m (finalized es))) n (introduced es) ∙ and_from _ _ (ap not e) i))
+    at false e =
+        absurd (both_ways false refl (ap (has n) (sym l) ∙ has_filter (λ m. not (has m (finalized es))) n (introduced es) ∙ and_from _ _ (ap not e) i))
 
 -- A beginning is no wider than the list.
 pub width_front : (xs ys before : List Event) → width_after before xs ≤ width_after before (xs ++ ys)

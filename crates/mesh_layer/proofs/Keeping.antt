@@ -104,7 +104,8 @@ module _ (limit : ℕ) (lower : List Rule) (top : Rule) (G : Meaning Event) (v :
   }
 
 -- One layer more on a pile.
-pile_more : (limit : ℕ) (lower : List Rule) (rule : Rule) (o : Outcome Event) → pile limit (lower ++ (rule ∷ [])) o ≡ through limit rule (pile limit lower o)
+pile_more : (limit : ℕ) (lower : List Rule) (rule : Rule) (o : Outcome Event)
+    → pile limit (lower ++ (rule ∷ [])) o ≡ through limit rule (pile limit lower o)
 pile_more limit [] rule o = refl
 pile_more limit (r ∷ rs) rule o = pile_more limit rs rule (through limit r o)
 

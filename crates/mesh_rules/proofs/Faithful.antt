@@ -41,7 +41,8 @@ own_after limit (e ∷ es) before (a, h) =
 own_points : (limit : ℕ) (es : List Event) → Accepted (refusal limit) es → All (Own es) es
 own_points limit es h = own_after limit es [] (loosely limit es h)
 
-distinct_after : (limit : ℕ) (es before : List Event) → Distinct (introduced before) → Loosely limit before es → Distinct (introduced (before ++ es))
+distinct_after : (limit : ℕ) (es before : List Event) → Distinct (introduced before) → Loosely limit before es
+    → Distinct (introduced (before ++ es))
 distinct_after limit [] before d h = subst (λ (z : List Event). Distinct (introduced z)) (sym (append-nil before)) d
 distinct_after limit (e ∷ es) before d (a, h) =
     subst (λ (z : List Event). Distinct (introduced z)) (append_assoc before (e ∷ []) es) (distinct_after limit es (before ++ (e ∷ [])) (here e a) h)

@@ -29,7 +29,8 @@ impl<S: Stage<Item = Event>, F: Filter<In = Event, Out = Event>> Layer<S, F> {
     // Puts a layer on a stage. Where its filter does what a rule says, it is one layer more of a pile.
     pub fn over(below: S, filter: F) -> Layer<S, F>
         ensures made { Made (F.Filter.rewrites filter F.Filter.empty) (seen S.Stage below) (seen ⟦<Layer<S, F> as Stage>⟧ result) }
-        ensures rule { (limit : ℕ) (rule : Rule) → ((o : Outcome MeshEvent) → F.Filter.rewrites filter F.Filter.empty o ≡ through limit rule o)
+        ensures rule { (limit : ℕ) (rule : Rule)
+            → ((o : Outcome MeshEvent) → F.Filter.rewrites filter F.Filter.empty o ≡ through limit rule o)
             → PutOn limit rule (seen S.Stage below) (seen ⟦<Layer<S, F> as Stage>⟧ result) }
     {
         Layer::start(below, filter)
