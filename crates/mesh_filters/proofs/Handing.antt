@@ -24,10 +24,15 @@ module _ {T : Type 0} (work : Work T) (j k : Judge T) (given now : ℕ) (e : Eve
     handed = h;
   }
 
+module _ {T : Type 0} (work : Work T) (j k : Judge T) (given : ℕ) (e : Event) where
   pub not_handed : {H : Type 0} (listed : H → List Event) (c : Cause) (r : Result H Cause) → Rejects j e c k
-      → IsErrAnd r (λ q. q ≡ c) → Handed listed work j given e r k now
+      → IsErrAnd r (λ q. q ≡ c) → Handed listed work j given e r k given
   not_handed listed c (Ok rest) f h = absurd h
-  not_handed listed c (Err q) f h = f.by_window ∙ ap (λ (x : Cause). Some x) (sym h)
+  not_handed listed c (Err q) f h = record {
+    refused = f.by_window ∙ ap (λ (x : Cause). Some x) (sym h);
+    limit = f.limit;
+    memory = ap (λ (u : Window T). remembers u given) f.window;
+  }
 
 module _ {T : Type 0} (layer : LayerName) (work : Work T) (j : Judge T) (given : ℕ) where
   abbrev at : ℕ → Machine (Memory T) Event Event
@@ -56,7 +61,10 @@ module _ {T : Type 0} (layer : LayerName) (work : Work T) (j : Judge T) (given :
       (k : Judge T) (now : ℕ) → Handed listed work j given e r k now
       → Takes empty (λ h. means layer work j given (listed h)) e (or_fault r layer e) (λ h. means layer work k now (listed h))
   takes listed empty none e (Ok rest) k now h = λ o. all_handed listed empty none (prepend e o) ∙ goes_on e (listed rest) k now h o
-  takes listed empty none e (Err c) k now h = λ o. all_handed listed empty none (prepend e o) ∙ by_verdict e (Some c) h o
+  takes listed empty none e (Err c) k now h = (
+    λ o. all_handed listed empty none (prepend e o) ∙ by_verdict e (Some c) h.refused o,
+    λ g o i. runs_on (at (h.limit i)) (listed g) (h.memory i) o,
+  )
 
 -- A new filter is its machine before the first event.
 pub begins : {T : Type 0} (layer : LayerName) (work : Work T) (j : Judge T) → Begun 1024 j → (o : Outcome Event)

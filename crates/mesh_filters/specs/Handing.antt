@@ -46,8 +46,14 @@ module _ {T : Type 0} (work : Work T) (j : Judge T) (given : ℕ) (e : Event) wh
     pub memory : memory_by k now ≡ moves_on work (memory_by j given) e
     pub handed : out ≡ work.hands (memory_by j given) e
 
+  -- The event is refused for this cause, and what the filter keeps is as it was.
+  pub record Refuses (c : Cause) (k : Judge T) (now : ℕ) : Type 0 where
+    pub refused : refuses (live_limit j) (window_of j) e ≡ Some c
+    pub limit : live_limit k ≡ live_limit j
+    pub memory : memory_by k now ≡ memory_by j given
+
 -- The event is accepted, and what the rest lists is to be handed over for it; or it is refused for this cause.
 abbrev pub Handed : {T H : Type 0} → (H → List Event) → Work T → Judge T → ℕ → Event → Result H Cause
     → Judge T → ℕ → Type 0
 Handed listed work j given e (Ok rest) k now = HandsOver work j given e (listed rest) k now
-Handed listed work j given e (Err c) k now = refuses (live_limit j) (window_of j) e ≡ Some c
+Handed listed work j given e (Err c) k now = Refuses work j given e c k now

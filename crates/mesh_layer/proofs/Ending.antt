@@ -3,13 +3,13 @@ use Rattle.std.proofs.Common.{◌≡◌, ℕ, true, false, List, [], ◌∷◌, 
 use Rattle.std.proofs.lemmas.Bool.{both_ways}
 use Rattle.mesh_stream.specs.declared.event.Event.{Event}
 use Rattle.mesh_stream.specs.declared.fault.LayerName.{LayerName}
-use Rattle.mesh_stream.specs.declared.fault.Cause.{Cause}
 use Rattle.mesh_stream.specs.declared.stage.Standing.{Standing}
 use Rattle.mesh_stream.specs.declared.stage.Standing.TheVariants.{Waiting, Ended, Faulty}
 use Rattle.mesh_stream.specs.Live.{live}
 use Rattle.mesh_stream.specs.Meaning.{Mark, unclosed, closed, Outcome, outcome, prepend, IsWaiting}
 use Rattle.mesh_stream.specs.Runs.{View, Call, feeds, closes, asks, Step, Run}
-use Rattle.mesh_judge.specs.Accepting.{Rules, accept, accepted_after, accepted, Stop, stop, stop_after, end_with, stands_over, stands_by, judged}
+use Rattle.mesh_judge.specs.Accepting.{Rules, accepted, Stop, stop_after, end_with, stands_over, stands_by, judged}
+use Rattle.mesh_rules.proofs.Beginnings.{not_stopped, all_accepted}
 use Rattle.mesh_layer.specs.Law.{has_ended}
 
 abbrev pub IsOver : View Event → Type 0
@@ -51,15 +51,6 @@ ended_is_over (asks (Err Ended) ∷ cs) v w (u, s, r) h = run_over cs u w r over
 
 -- What judged a list and ended accepted all of it, and it leaves no vertex live.
 module _ (rules : Rules) (layer : LayerName) where
-  all_accepted : (es before : List Event) → stop_after rules before es ≡ None → accepted_after rules before es ≡ es
-  all_accepted [] before h = refl
-  all_accepted (e ∷ es) before h = at (rules before e) (λ k. all_accepted es (before ++ (e ∷ [])) k) h
-    where
-      at : (o : Option Cause) → (stop_after rules (before ++ (e ∷ [])) es ≡ None → accepted_after rules (before ++ (e ∷ [])) es ≡ es)
-          → stop o e (stop_after rules (before ++ (e ∷ [])) es) ≡ None → accept o e (accepted_after rules (before ++ (e ∷ [])) es) ≡ e ∷ es
-      at None ih k = ap (λ (z : List Event). e ∷ z) (ih k)
-      at (Some c) ih k = cc
-
   no_live : (es : List Event) (ns : List ℕ) → end_with layer es ns ≡ Ended → ns ≡ []
   no_live es [] h = refl
   no_live es (n ∷ ns) h = cc
@@ -72,6 +63,7 @@ module _ (rules : Rules) (layer : LayerName) where
   pub ended_leaves_none : (o : Outcome Event) → (judged layer rules o).stands ≡ Ended → live (accepted rules o.items) ≡ []
   ended_leaves_none o h = at (stop_after rules [] o.items) refl h
     where
-      at : (s : Option Stop) → stop_after rules [] o.items ≡ s → stands_by layer s o.items o.stands ≡ Ended → live (accepted rules o.items) ≡ []
-      at None e k = ap live (all_accepted o.items [] e) ∙ over_ended o.items o.stands k
+      at : (s : Option Stop) → stop_after rules [] o.items ≡ s → stands_by layer s o.items o.stands ≡ Ended
+          → live (accepted rules o.items) ≡ []
+      at None e k = ap live (all_accepted rules o.items (not_stopped rules o.items [] e)) ∙ over_ended o.items o.stands k
       at (Some s) e k = cc

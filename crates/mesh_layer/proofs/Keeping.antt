@@ -9,13 +9,14 @@ use Rattle.mesh_stream.specs.Runs.{View, Call, Run, taken, handed, mark_of, prep
 use Rattle.mesh_stream.proofs.Running.{left}
 use Rattle.mesh_judge.specs.Accepting.{refusal, Accepted, accepted}
 use Rattle.mesh_rules.specs.Piling.{Rule, name_of, through, pile, lowest_stands}
+use Rattle.mesh_rules.proofs.Beginnings.{accepted_parts}
 use Rattle.mesh_rules.proofs.Piling.{pile_laws}
 use Rattle.mesh_stream.specs.declared.stage.Stage.{Ghosts as StageGhosts}
 use Rattle.mesh_layer.specs.declared.filter.Filter.{Ghosts as FilterGhosts}
 use Rattle.mesh_layer.specs.declared.layer.Layer.{Layer}
-use Rattle.mesh_layer.specs.Layering.{seen, seen_through}
+use Rattle.mesh_layer.specs.Layering.{seen, seen_through, Made}
 use Rattle.mesh_layer.specs.Law.{Piled, Gives, Idles, has_ended, ClosedOff, layers, bottom_outcome, whole_mesh, Law, PutOn}
-use Rattle.mesh_layer.proofs.Handed.{accepted_front, well_formed, closed_off, width_front}
+use Rattle.mesh_layer.proofs.Handed.{well_formed, closed_off, width_front}
 use Rattle.mesh_layer.proofs.Ending.{ended_is_over, ended_leaves_none}
 
 -- What a pile of one layer at least does to a list.
@@ -50,8 +51,8 @@ module _ (limit : ℕ) (lower : List Rule) (top : Rule) (G : Meaning Event) (v w
 
   handed_accepted : Accepted (refusal limit) (handed cs)
   handed_accepted =
-      accepted_front (refusal limit) (handed cs) (w.means [] unclosed).items []
-      (subst (λ (o : Outcome Event). Accepted (refusal limit) o.items) whole_left fact.stays_accepted)
+      (accepted_parts (refusal limit) (handed cs) (w.means [] unclosed).items []
+      (subst (λ (o : Outcome Event). Accepted (refusal limit) o.items) whole_left fact.stays_accepted)).0
 
   used_up : (s : Standing) → Idles w s → (handed cs ≡ (whole_mesh limit lower top G cs w).items) × (s ≡ (whole_mesh limit lower top G cs w).stands)
   used_up s (u, i) =
@@ -103,24 +104,31 @@ module _ (limit : ℕ) (lower : List Rule) (top : Rule) (G : Meaning Event) (v :
   }
 
 -- One layer more on a pile.
-pile_more : (limit : ℕ) (lower : List Rule) (rule : Rule) (o : Outcome Event) → pile limit (lower ++ (rule ∷ [])) o ≡ through limit rule (pile limit lower o)
+pile_more : (limit : ℕ) (lower : List Rule) (rule : Rule) (o : Outcome Event)
+    → pile limit (lower ++ (rule ∷ [])) o ≡ through limit rule (pile limit lower o)
 pile_more limit [] rule o = refl
 pile_more limit (r ∷ rs) rule o = pile_more limit rs rule (through limit r o)
 
-pub put_on : (limit : ℕ) (rule : Rule) (v w : View Event) → w.port ≡ v.port → ((t : List ℕ) (m : Mark) → w.means t m ≡ through limit rule (v.means t m)) → PutOn limit rule v w
-put_on limit rule v w e h = record {
-  port_same = e;
-  by_rule = h;
-  piled = more;
-  law = λ lower G p. keeps_law limit lower rule G w (more lower G p);
+-- A layer that does what the rule says.
+pub put_on : (limit : ℕ) (rule : Rule) (F : Outcome Event → Outcome Event) (v w : View Event) → Made F v w
+    → ((o : Outcome Event) → F o ≡ through limit rule o) → PutOn limit rule v w
+put_on limit rule F v w made does = record {
+  port_same = made.port_same;
+  by_rule = by_rule;
+  piled = piled;
+  law = λ lower G p. keeps_law limit lower rule G w (piled lower G p);
 }
   where
-    more : (lower : List Rule) (G : Meaning Event) → Piled limit lower G v → Piled limit (lower ++ (rule ∷ [])) G w
-    more lower G p t m = h t m ∙ ap (through limit rule) (p t m) ∙ sym (pile_more limit lower rule (G t m))
+    by_rule : (t : List ℕ) (m : Mark) → w.means t m ≡ through limit rule (v.means t m)
+    by_rule t m = made.means t m ∙ does (v.means t m)
 
-pub put_over : {S F R : Type 0} (stage : StageGhosts S Event) (f : FilterGhosts F Event Event R) (limit : ℕ) (rule : Rule) (below : S) (filter : F) (l : Layer S F Event Event R)
-    → l ≡ record { below = below; filter = filter; rest = f.empty; fault = None } → ((o : Outcome Event) → f.rewrites filter f.empty o ≡ through limit rule o)
-    → PutOn limit rule (seen stage below) (seen_through stage f l)
-put_over stage f limit rule below filter l e h =
-    subst (λ z. PutOn limit rule (seen stage below) (seen_through stage f z)) (sym e)
-    (put_on limit rule (seen stage below) (seen_through stage f (record { below = below; filter = filter; rest = f.empty; fault = None })) refl (λ t m. h (stage.meaning below t m)))
+    piled : (lower : List Rule) (G : Meaning Event) → Piled limit lower G v → Piled limit (lower ++ (rule ∷ [])) G w
+    piled lower G p t m = by_rule t m ∙ ap (through limit rule) (p t m) ∙ sym (pile_more limit lower rule (G t m))
+
+-- A layer that has nothing to hand over yet makes what its filter does.
+pub made_over : {S F I O R : Type 0} (stage : StageGhosts S I) (f : FilterGhosts F I O R) (below : S) (filter : F) (l : Layer S F I O R)
+    → l ≡ record { below = below; filter = filter; rest = f.empty; fault = None }
+    → Made (f.rewrites filter f.empty) (seen stage below) (seen_through stage f l)
+made_over stage f below filter l e =
+    subst (λ z. Made (f.rewrites filter f.empty) (seen stage below) (seen_through stage f z)) (sym e)
+    (record { port_same = refl; means = λ t m. refl })

@@ -28,7 +28,8 @@ lawful_run v w cs r limit lower top G p = keeps_law limit lower top G v p cs w r
 
 -- One entry more of the log.
 pub calls_more : (os : List Order) (log : List (Reply Event)) (i : ℕ) (d : Order) (cs : List (Call Event)) (r : Reply Event) (c : Call Event) → i < length os → i < length log
-    → AreCalls (take i os) (take i log) cs → IsCall (get_or os i d) r c → AreCalls (take (i + 1) os) (take (i + 1) (slice_set log i r)) (cs ++ (c ∷ []))
+    → AreCalls (take i os) (take i log) cs → IsCall (get_or os i d) r c
+    → AreCalls (take (i + 1) os) (take (i + 1) (slice_set log i r)) (cs ++ (c ∷ []))
 calls_more os log i d cs r c a b called is =
     subst (λ (z : List Order). AreCalls z (take (i + 1) (slice_set log i r)) (cs ++ (c ∷ []))) (sym (take_more os i d a))
     (subst (λ (z : List (Reply Event)). AreCalls (take i os ++ (get_or os i d ∷ [])) z (cs ++ (c ∷ []))) (sym (take_more_set log i r b))

@@ -23,10 +23,10 @@ module _ {I O H : Type 0} (empty : H) (F : H → Outcome I → Outcome O) where
   Gives old (Some i) h E = (o : Outcome I) → F old o ≡ prepend i (E h o)
   Gives old None h E = ((o : Outcome I) → F old o ≡ E h o) × (h ≡ empty)
 
-  -- Having handed over all, it takes an item: what it makes of it is to be handed over; or it is at fault.
+  -- Having handed over all, it takes an item: what it makes of it is to be handed over; or it is at fault, and does what it did.
   abbrev pub Takes : I → Result H Fault → (H → Outcome I → Outcome O) → Type 0
   Takes i (Ok h) E = (o : Outcome I) → F empty (prepend i o) ≡ E h o
-  Takes i (Err f) E = (o : Outcome I) → F empty (prepend i o) ≡ outcome [] (Faulty f)
+  Takes i (Err f) E = ((o : Outcome I) → F empty (prepend i o) ≡ outcome [] (Faulty f)) × ((h : H) (o : Outcome I) → E h o ≡ F h o)
 
   -- Having handed over all, with no item below, it stands so.
   abbrev pub StandsSo : Standing → Standing → Type 0

@@ -1,7 +1,7 @@
 -- What a layer means, and that a filter over a lawful stage is a lawful stage.
+use Rattle.std.specs.Prelude.{◌≡◌, ℕ, List, Some, None, Option}
 use Rattle.mesh_stream.specs.declared.stage.Stage.{Ghosts as StageGhosts}
-use Rattle.std.specs.Prelude.{◌≡◌, Some, None, Option}
-use Rattle.mesh_stream.specs.Meaning.{Outcome, prepend}
+use Rattle.mesh_stream.specs.Meaning.{Mark, Outcome, prepend}
 use Rattle.mesh_stream.specs.Runs.{View, viewed}
 use Rattle.mesh_layer.specs.declared.filter.Filter.{Ghosts as FilterGhosts}
 use Rattle.mesh_layer.specs.declared.layer.Layer.{Layer}
@@ -25,3 +25,8 @@ seen_through stage filter l = viewed (stage.port l.below)
 abbrev pub Took : {S F I O R : Type 0} → FilterGhosts F I O R → Layer S F I O R → I → Option O → Layer S F I O R → Type 0
 Took filter old i (Some x) new = (o : Outcome _) → filter.rewrites old.filter filter.empty (prepend i o) ≡ prepend x (makes filter new o)
 Took filter old i None new = (o : Outcome _) → filter.rewrites old.filter filter.empty (prepend i o) ≡ makes filter new o
+
+-- What is seen as w takes text as v does, and makes F of all that v gives.
+pub record Made {I O : Type 0} (F : Outcome I → Outcome O) (v : View I) (w : View O) : Type 0 where
+  pub port_same : w.port ≡ v.port
+  pub means : (t : List ℕ) (m : Mark) → w.means t m ≡ F (v.means t m)

@@ -12,7 +12,8 @@ abbrev pub unless_faulty : {I O : Type 0} → Option Fault → (Outcome I → Ou
 unless_faulty (Some f) F o = outcome [] (Faulty f)
 unless_faulty None F o = F o
 
-pub unless_faulty_filters : {I O : Type 0} {F : Outcome I → Outcome O} (fault : Option Fault) → Filtering F → Filtering (unless_faulty fault F)
+pub unless_faulty_filters : {I O : Type 0} {F : Outcome I → Outcome O} (fault : Option Fault) → Filtering F
+    → Filtering (unless_faulty fault F)
 unless_faulty_filters (Some f) k = record {
   begins = λ xs ys s r. ([], refl);
   waits = λ o w. absurd w;

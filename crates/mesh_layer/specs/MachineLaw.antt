@@ -8,7 +8,8 @@ use Rattle.mesh_layer.specs.Filtering.{Filtering}
 use Rattle.mesh_layer.specs.Machine.{Verdict, goes, stops, Machine, after, run, runs_on, Patient}
 
 module _ {M I O : Type 0} (w : Machine M I O) (p : Patient w) where
-  begins_by : (v : Verdict M O) (k j : M → Outcome O) → ((m : M) → Begins (k m).items (j m).items) → Begins (after v k).items (after v j).items
+  begins_by : (v : Verdict M O) (k j : M → Outcome O) → ((m : M) → Begins (k m).items (j m).items)
+      → Begins (after v k).items (after v j).items
   begins_by (goes m os) k j h = ((h m).0, ap (λ (z : List O). os ++ z) (h m).1 ∙ sym (append_assoc os (k m).items (h m).0))
   begins_by (stops f) k j h = ([], refl)
 
@@ -16,7 +17,8 @@ module _ {M I O : Type 0} (w : Machine M I O) (p : Patient w) where
   run_begins [] zs s r m = ((run w m zs r).items, refl)
   run_begins (x ∷ xs) zs s r m = begins_by (w.step m x) (λ n. run w n xs s) (λ n. run w n (xs ++ zs) r) (run_begins xs zs s r)
 
-  waits_by : (v : Verdict M O) (k : M → Outcome O) (s : Standing) → ((m : M) → IsWaiting (k m).stands → IsWaiting s) → IsWaiting (after v k).stands → IsWaiting s
+  waits_by : (v : Verdict M O) (k : M → Outcome O) (s : Standing) → ((m : M) → IsWaiting (k m).stands → IsWaiting s)
+      → IsWaiting (after v k).stands → IsWaiting s
   waits_by (goes m os) k s h = h m
   waits_by (stops f) k s h = λ z. absurd z
 
@@ -29,7 +31,8 @@ module _ {M I O : Type 0} (w : Machine M I O) (p : Patient w) where
   stops_by (goes m os) k j h n = ap (prepends os) (h m n)
   stops_by (stops f) k j h n = refl
 
-  run_stops : (xs zs : List I) (s r : Standing) (m : M) → IsWaiting s → (IsWaiting (run w m xs s).stands → ⊥) → run w m (xs ++ zs) r ≡ run w m xs s
+  run_stops : (xs zs : List I) (s r : Standing) (m : M) → IsWaiting s → (IsWaiting (run w m xs s).stands → ⊥)
+      → run w m (xs ++ zs) r ≡ run w m xs s
   run_stops [] zs s r m h n = absurd (n (p.stays m s h))
   run_stops (x ∷ xs) zs s r m h n = stops_by (w.step m x) (λ q. run w q xs s) (λ q. run w q (xs ++ zs) r) (λ q. run_stops xs zs s r q h) n
 

@@ -35,7 +35,8 @@ pub trait Filter {
     fn give(&mut self, rest: &mut Self::Rest) -> Option<Self::Out>
         ensures { Gives empty (rewrites self.old) rest.old result rest.new (rewrites self.new) };
 
-    // Takes an item of the stage below, once all is handed over, and answers what is to be handed over for it, or why the layer is at fault.
+    // Takes an item of the stage below, once all is handed over, and answers what is to be handed over for it; or why the layer is at
+    // fault, and then it changes nothing.
     fn take(&mut self, item: Self::In) -> Result<Self::Rest, Fault>
         ensures { Takes empty (rewrites self.old) item result (rewrites self.new) };
 

@@ -6,5 +6,6 @@ use Rattle.mesh_report.specs.declared.report.Report.{Report}
 use Rattle.mesh_report.specs.Reporting.{reported}
 use Rattle.mesh_report.specs.Streaming.{WillReport}
 
-pub said_of : (G : Meaning Event) (r : Report) (t : List ℕ) (o n : Outcome Event) → o ≡ n → WillReport G r t (reported o) → WillReport G r t (reported n)
+pub said_of : (G : Meaning Event) (r : Report) (t : List ℕ) (o n : Outcome Event) → o ≡ n → WillReport G r t (reported o)
+    → WillReport G r t (reported n)
 said_of G r t o n e w = subst (λ z. WillReport G r t (reported z)) e w

@@ -1,10 +1,9 @@
--- The accepted beginning of a list, and of one that goes on.
+-- The accepted beginning of a list.
 use Rattle.std.proofs.Common.{◌≡◌, List, [], ◌∷◌, ◌++◌, Some, None, Option, sym, refl, ap, ◌∙◌, subst, append_assoc, append-nil}
 use Rattle.std.proofs.lemmas.Option.{none-some}
 use Rattle.mesh_stream.specs.declared.event.Event.{Event}
 use Rattle.mesh_stream.specs.declared.fault.Cause.{Cause}
-use Rattle.mesh_stream.specs.Meaning.{Begins}
-use Rattle.mesh_judge.specs.Accepting.{Rules, accept, accepted, accepted_after, Accepted, AcceptedAfter, Stop, stop, stop_after}
+use Rattle.mesh_judge.specs.Accepting.{Rules, accept, accepted, accepted_after, Accepted, AcceptedAfter, stop, stop_after}
 use Rattle.mesh_judge.proofs.Splitting.{accepted_split}
 
 module _ (rules : Rules) where
@@ -41,28 +40,3 @@ module _ (rules : Rules) where
 
   pub all_accepted : (es : List Event) → Accepted rules es → accepted rules es ≡ es
   all_accepted es h = ap (accepted rules) (sym (append-nil es)) ∙ accepted_split rules es [] [] h ∙ append-nil es
-
-  -- where a list stops, it stops as well when it goes on
-  pub stops_there : (xs ys before : List Event) (s : Stop) → stop_after rules before xs ≡ Some s
-      → (accepted_after rules before (xs ++ ys) ≡ accepted_after rules before xs) × (stop_after rules before (xs ++ ys) ≡ Some s)
-  stops_there [] ys before s h = absurd (none-some s h)
-  stops_there (x ∷ xs) ys before s h = at (rules before x) h (stops_there xs ys (before ++ (x ∷ [])) s)
-    where
-      at : (o : Option Cause) → stop o x (stop_after rules (before ++ (x ∷ [])) xs) ≡ Some s
-          → (stop_after rules (before ++ (x ∷ [])) xs ≡ Some s
-          → (accepted_after rules (before ++ (x ∷ [])) (xs ++ ys) ≡ accepted_after rules (before ++ (x ∷ [])) xs)
-          × (stop_after rules (before ++ (x ∷ [])) (xs ++ ys) ≡ Some s))
-          → (accept o x (accepted_after rules (before ++ (x ∷ [])) (xs ++ ys)) ≡ accept o x (accepted_after rules (before ++ (x ∷ [])) xs))
-          × (stop o x (stop_after rules (before ++ (x ∷ [])) (xs ++ ys)) ≡ Some s)
-      at None k ih = let r = ih k in (ap (λ (z : List Event). x ∷ z) r.0, r.1)
-      at (Some c) k ih = (refl, k)
-
-  pub accepted_begins : (xs ys : List Event) → Begins (accepted rules xs) (accepted rules (xs ++ ys))
-  accepted_begins xs ys = at (stop_after rules [] xs) refl
-    where
-      at : (o : Option Stop) → stop_after rules [] xs ≡ o → Begins (accepted rules xs) (accepted rules (xs ++ ys))
-      at None k =
-          let ok = not_stopped xs [] k in
-          let more : List Event = accepted_after rules xs ys in
-          (more, accepted_split rules xs ys [] ok ∙ ap (λ (z : List Event). z ++ more) (sym (all_accepted xs ok)))
-      at (Some s) k = ([], (stops_there xs ys [] s k).0 ∙ sym (append-nil (accepted rules xs)))

@@ -45,7 +45,8 @@ of_three P a b c pa pb pc n h = at (or_cases (eqb n a) _ h)
 
 -- One event more is taken.
 module _ (all before : List Event) (l : ℕ) where
-  took_vertex : (out : List Event) (seen : List ℕ) (n : ℕ) (v : Point) → Moving all before out seen → Moving all (before ++ (Vertex l n v ∷ [])) out seen
+  took_vertex : (out : List Event) (seen : List ℕ) (n : ℕ) (v : Point) → Moving all before out seen
+      → Moving all (before ++ (Vertex l n v ∷ [])) out seen
   took_vertex out seen n v w = record {
     moved_in = w.moved_in;
     differ = w.differ;
@@ -169,7 +170,8 @@ module _ (limit : ℕ) (all : List Event) (ok : Accepted (refusal limit) all) wh
         )
         here false k = subst Goal (sym k) (next out seen (left_final all before l out seen i w k))
 
-  moves : (rest before : List Event) → all ≡ before ++ rest → Bounded limit before → AcceptedAfter (refusal limit) before rest → Moves before rest
+  moves : (rest before : List Event) → all ≡ before ++ rest → Bounded limit before → AcceptedAfter (refusal limit) before rest
+      → Moves before rest
   moves [] before e s h = λ out seen w.
       subst (λ (z : List Event). Ends z out) (sym (e ∙ append-nil before))
       (live_too all before out seen w, no_more (introduced out) (introduced before) w.differ (λ n k. w.known n (sym (w.moved_in n) ∙ k)))

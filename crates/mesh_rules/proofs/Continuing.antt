@@ -39,7 +39,8 @@ module _ (xs ys : List Event) (known : All (Known (introduced xs)) xs) where
   pub clipped_begins : (inside : Point → Bool) → Begins (clipped inside xs) (clipped inside (xs ++ ys))
   clipped_begins inside = filtered_begins (names_kept (λ n. inside (point xs n))) (names_kept (λ n. inside (point (xs ++ ys) n))) agree
     where
-      agree : (e : Event) → Known (introduced xs) e → names_kept (λ n. inside (point xs n)) e ≡ names_kept (λ n. inside (point (xs ++ ys) n)) e
+      agree : (e : Event) → Known (introduced xs) e
+          → names_kept (λ n. inside (point xs n)) e ≡ names_kept (λ n. inside (point (xs ++ ys) n)) e
       agree (Vertex l n v) h = ap inside (sym (point_stays xs ys n h))
       agree (Triangle l a b c) h = looked_up (λ u v w. inside u && inside v && inside w) a b c h.0 h.1 h.2
       agree (Finalization l i) h = ap inside (sym (point_stays xs ys i h))

@@ -8,23 +8,13 @@ use Rattle.mesh_stream.specs.declared.event.Event.TheVariants.{Vertex, Triangle,
 use Rattle.mesh_stream.specs.Lists.{has}
 use Rattle.mesh_stream.specs.Events.{introduced, point}
 use Rattle.mesh_judge.specs.Accepting.{refusal, Accepted}
-use Rattle.mesh_rules.specs.Rewriting.{position, renumbered, moved, compacted}
+use Rattle.mesh_rules.specs.Rewriting.{position, renumbered, moved}
+use Rattle.mesh_rules.specs.RuleLaws.{Own, Counting, Faithful}
 use Rattle.mesh_stream.proofs.Views.{introduced_v, introduced_t, introduced_f}
 use Rattle.mesh_stream.proofs.Distinct.{Distinct, distinct_push, eqb_comm}
 use Rattle.mesh_rules.proofs.Having.{has-++}
 use Rattle.mesh_rules.proofs.Numbering.{Loose, Loosely, loosely, count_before_new, introduced_renamed}
 use Rattle.mesh_rules.proofs.Compacting.{moved_loosely}
-
--- A vertex event's own coordinates are those looked up for its number.
-abbrev pub Own : List Event → Event → Type 0
-Own all (Vertex p n v) = point all n ≡ v
-Own all (Triangle p a b c) = Unit {0}
-Own all (Finalization p i) = Unit {0}
-
--- k, k + 1, and so on.
-abbrev pub Counting : ℕ → List ℕ → Type 0
-Counting k [] = Unit {0}
-Counting k (n ∷ ns) = (n ≡ k) × Counting (suc k) ns
 
 -- A vertex that is new has the point that it is introduced with, whatever follows.
 pub point_new : (xs ys : List Event) (l n : ℕ) (v : Point) → has n (introduced xs) ≡ false → point (xs ++ (Vertex l n v ∷ ys)) n ≡ v
@@ -48,10 +38,11 @@ own_after limit (e ∷ es) before (a, h) =
     here (Triangle l a b c) k = tt
     here (Finalization l i) k = tt
 
-pub own_points : (limit : ℕ) (es : List Event) → Accepted (refusal limit) es → All (Own es) es
+own_points : (limit : ℕ) (es : List Event) → Accepted (refusal limit) es → All (Own es) es
 own_points limit es h = own_after limit es [] (loosely limit es h)
 
-distinct_after : (limit : ℕ) (es before : List Event) → Distinct (introduced before) → Loosely limit before es → Distinct (introduced (before ++ es))
+distinct_after : (limit : ℕ) (es before : List Event) → Distinct (introduced before) → Loosely limit before es
+    → Distinct (introduced (before ++ es))
 distinct_after limit [] before d h = subst (λ (z : List Event). Distinct (introduced z)) (sym (append-nil before)) d
 distinct_after limit (e ∷ es) before d (a, h) =
     subst (λ (z : List Event). Distinct (introduced z)) (append_assoc before (e ∷ []) es) (distinct_after limit es (before ++ (e ∷ [])) (here e a) h)
@@ -85,8 +76,9 @@ counted limit es h =
     subst (Counting 1) (sym (introduced_renamed (position (introduced es)) es))
     (counting (introduced es) (introduced es) [] refl (distinct_after limit es [] tt h))
 
-pub renumbered_counts : (limit : ℕ) (es : List Event) → Accepted (refusal limit) es → Counting 1 (introduced (renumbered es))
-renumbered_counts limit es h = counted limit es (loosely limit es h)
-
-pub compacted_counts : (limit : ℕ) (es : List Event) → Accepted (refusal limit) es → Counting 1 (introduced (compacted es))
-compacted_counts limit es h = counted limit (moved es [] es) (moved_loosely limit es h)
+pub faithful : (limit : ℕ) (es : List Event) → Accepted (refusal limit) es → Faithful es
+faithful limit es h = record {
+  points = own_points limit es h;
+  renumbered_count = counted limit es (loosely limit es h);
+  compacted_count = counted limit (moved es [] es) (moved_loosely limit es h);
+}

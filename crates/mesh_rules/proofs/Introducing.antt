@@ -57,7 +57,8 @@ pub record Introduced (n : ℕ) (es : List Event) : Type 0 where
 not_here : (n : ℕ) (e : Event) (es : List Event) → introduces n e ≡ false → Introduced n es → Introduced n (e ∷ es)
 not_here n e es h i = record { place = i.place; at = i.at; it = kept_no (introduces n) e es h ∙ i.it; fits = i.fits }
 
-introduced_after : (limit n : ℕ) (es before : List Event) → AcceptedAfter (refusal limit) before es → has n (introduced es) ≡ true → Introduced n es
+introduced_after : (limit n : ℕ) (es before : List Event) → AcceptedAfter (refusal limit) before es → has n (introduced es) ≡ true
+    → Introduced n es
 introduced_after limit n [] before h k = absurd (not_has_nil n k)
 introduced_after limit n (Vertex l m v ∷ es) before (a, h) k =
     here (eqb n m) refl (introduced_after limit n es (before ++ (Vertex l m v ∷ [])) h)

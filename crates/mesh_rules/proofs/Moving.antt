@@ -24,7 +24,8 @@ abbrev pub Leads : ℕ → (List Event → Type 0) → List Event → List Event
 Leads limit Q before [] = Q before
 Leads limit Q before (e ∷ es) = Loose limit before e × Leads limit Q (before ++ (e ∷ [])) es
 
-pub leads_loosely : (limit : ℕ) (Q : List Event → Type 0) (es before : List Event) → Leads limit Q before es → Loosely limit before es × Q (before ++ es)
+pub leads_loosely : (limit : ℕ) (Q : List Event → Type 0) (es before : List Event) → Leads limit Q before es
+    → Loosely limit before es × Q (before ++ es)
 leads_loosely limit Q [] before h = (tt, subst Q (sym (append-nil before)) h)
 leads_loosely limit Q (e ∷ es) before (a, h) =
     let r = leads_loosely limit Q es (before ++ (e ∷ [])) h in ((a, r.0), subst Q (append_assoc before (e ∷ []) es) r.1)
@@ -66,7 +67,8 @@ with_one n xs seen k w m h = at (or_cases (eqb m n) (has m seen) h)
     at (inr e) = w m e
 
 module _ (all before : List Event) where
-  pub same_seen : (out : List Event) (seen more : List ℕ) → ((n : ℕ) → has n seen ≡ has n more) → Moving all before out seen → Moving all before out more
+  pub same_seen : (out : List Event) (seen more : List ℕ) → ((n : ℕ) → has n seen ≡ has n more) → Moving all before out seen
+      → Moving all before out more
   same_seen out seen more e w = record {
     moved_in = λ n. w.moved_in n ∙ e n;
     differ = w.differ;
@@ -84,7 +86,8 @@ module _ (all before : List Event) where
 
   module _ (out : List Event) (seen : List ℕ) (w : Moving all before out seen) (n : ℕ) (new : has n seen ≡ false) where
     -- one vertex moved in
-    move_in : (l : ℕ) (v : Point) → has n (introduced before) ≡ true → has n (named all) ≡ true → Moving all before (out ++ (Vertex l n v ∷ [])) (n ∷ seen)
+    move_in : (l : ℕ) (v : Point) → has n (introduced before) ≡ true → has n (named all) ≡ true
+        → Moving all before (out ++ (Vertex l n v ∷ [])) (n ∷ seen)
     move_in l v is_known is_wanted = record {
       moved_in = λ m. ap (has m) (introduced_v out l n v) ∙ has_end m n (introduced out) ∙ ap (λ b. eqb m n || b) (w.moved_in m);
       differ = subst Distinct (sym (introduced_v out l n v)) (distinct_push (introduced out) n w.differ (w.moved_in n ∙ new));
@@ -110,7 +113,9 @@ module _ (all before : List Event) where
       (once : (n : ℕ) → has n (introduced before) ≡ true → Introduced n all) where
     -- the tail may follow once these numbers were seen too
     abbrev Next : List ℕ → List ℕ → Type 0
-    Next seen ns = (out : List Event) (more : List ℕ) → Moving all before out more → ((n : ℕ) → has n more ≡ (has n seen || has n ns)) → Leads limit Q out tail
+    Next seen ns =
+        (out : List Event) (more : List ℕ) → Moving all before out more
+        → ((n : ℕ) → has n more ≡ (has n seen || has n ns)) → Leads limit Q out tail
 
     abbrev Goal : List Event → List ℕ → Type 0
     Goal out us = Leads limit Q out (flat_map (introduction all) us ++ tail)

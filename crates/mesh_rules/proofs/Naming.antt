@@ -24,11 +24,13 @@ known_after limit (e ∷ es) before (a, h) =
     (here e a, subst (λ (z : List Event). All (Known (introduced z)) es) (append_assoc before (e ∷ []) es) k)
   where
     old : (x : Event) (n : ℕ) → is_live before n ≡ true → has n (introduced (before ++ (x ∷ es))) ≡ true
-    old x n k = ap (has n) (introduced-++ before (x ∷ es)) ∙ has_left n (introduced before) (introduced (x ∷ es)) (live_introduced before n k)
+    old x n k =
+        ap (has n) (introduced-++ before (x ∷ es)) ∙ has_left n (introduced before) (introduced (x ∷ es)) (live_introduced before n k)
 
     here : (x : Event) → Loose limit before x → Known (introduced (before ++ (x ∷ es))) x
     here (Vertex l n v) k =
-        ap (has n) (introduced-++ before (Vertex l n v ∷ es)) ∙ has_right n (introduced before) (n ∷ introduced es) (has_self n (introduced es))
+        ap (has n) (introduced-++ before (Vertex l n v ∷ es))
+        ∙ has_right n (introduced before) (n ∷ introduced es) (has_self n (introduced es))
     here (Triangle l a b c) k = (old (Triangle l a b c) a k.first, old (Triangle l a b c) b k.second, old (Triangle l a b c) c k.third)
     here (Finalization l i) k = old (Finalization l i) i k
 

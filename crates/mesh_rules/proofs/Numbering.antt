@@ -175,14 +175,16 @@ module _ (limit : ℕ) (all : List ℕ) (few : length all ≤ 100000000) where
   renumbered_after : (es before : List Event) → all ≡ introduced before ++ introduced es → Loosely limit before es
       → AcceptedAfter (refusal limit) (map (renamed (position all)) before) (map (renamed (position all)) es)
   renumbered_after [] before e h = tt
-  renumbered_after (x ∷ es) before e (a, h) = (here x e a, subst A (map-append (renamed (position all)) before (x ∷ [])) (renumbered_after es (before ++ (x ∷ [])) (e ∙ shift) h))
+  renumbered_after (x ∷ es) before e (a, h) =
+      (here x e a, subst A (map-append (renamed (position all)) before (x ∷ [])) (renumbered_after es (before ++ (x ∷ [])) (e ∙ shift) h))
     where
       A : List Event → Type 0
       A z = AcceptedAfter (refusal limit) z (map (renamed (position all)) es)
 
       shift : introduced before ++ introduced (x ∷ es) ≡ introduced (before ++ (x ∷ [])) ++ introduced es
       shift =
-          sym (introduced-++ before (x ∷ es)) ∙ ap introduced (sym (append_assoc before (x ∷ []) es)) ∙ introduced-++ (before ++ (x ∷ [])) es
+          sym (introduced-++ before (x ∷ es)) ∙ ap introduced (sym (append_assoc before (x ∷ []) es))
+          ∙ introduced-++ (before ++ (x ∷ [])) es
 
       here : (y : Event) → all ≡ introduced before ++ introduced (y ∷ es) → Loose limit before y
           → refusal limit (map (renamed (position all)) before) (renamed (position all) y) ≡ None
@@ -190,7 +192,8 @@ module _ (limit : ℕ) (all : List ℕ) (few : length all ≤ 100000000) where
       here (Triangle l a b c) i k = triangle_renamed limit all before (introduced es) i l a b c k
       here (Finalization l j) i k = final_renamed limit all before (introduced es) i l j k
 
-pub loosely_renumbered : (limit : ℕ) (es : List Event) → length (introduced es) ≤ 100000000 → Loosely limit [] es → Accepted (refusal limit) (renumbered es)
+pub loosely_renumbered : (limit : ℕ) (es : List Event) → length (introduced es) ≤ 100000000 → Loosely limit [] es
+    → Accepted (refusal limit) (renumbered es)
 loosely_renumbered limit es few h = renumbered_after limit (introduced es) few es [] refl h
 
 -- Renumber keeps a list accepted, under the same limit, and leaves no vertex live that was not.
@@ -199,4 +202,5 @@ renumbered_accepted limit es ok = loosely_renumbered limit es (few_introduced li
 
 pub renumbered_none_live : (es : List Event) → live es ≡ [] → live (renumbered es) ≡ []
 renumbered_none_live es e =
-    live_renamed (position (introduced es)) (introduced es) (position_apart (introduced es)) es (λ n h. h) ∙ ap (map (position (introduced es))) e
+    live_renamed (position (introduced es)) (introduced es) (position_apart (introduced es)) es (λ n h. h)
+    ∙ ap (map (position (introduced es))) e

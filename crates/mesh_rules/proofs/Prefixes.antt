@@ -75,7 +75,8 @@ moved-++ all (Triangle l a b c ∷ xs) ys seen =
     ∙ sym (append_assoc us (Triangle l a b c ∷ moved all (a ∷ b ∷ c ∷ seen) xs) (moved all (seen_after (a ∷ b ∷ c ∷ seen) xs) ys))
 moved-++ all (Finalization l i ∷ xs) ys seen =
     let us : List Event = cond (has i (named all)) (Finalization l i ∷ []) [] in
-    ap (λ (z : List Event). us ++ z) (moved-++ all xs ys seen) ∙ sym (append_assoc us (moved all seen xs) (moved all (seen_after seen xs) ys))
+    ap (λ (z : List Event). us ++ z) (moved-++ all xs ys seen)
+    ∙ sym (append_assoc us (moved all seen xs) (moved all (seen_after seen xs) ys))
 
 flat_map_alike : (f g : ℕ → List Event) (ns seen : List ℕ) → ((n : ℕ) → has n ns ≡ true → f n ≡ g n)
     → flat_map f (unseen seen ns) ≡ flat_map g (unseen seen ns)
@@ -87,7 +88,8 @@ flat_map_alike f g (n ∷ ns) seen h =
         → flat_map f (unseen (n ∷ seen) ns) ≡ flat_map g (unseen (n ∷ seen) ns)
         → flat_map f (cond b (unseen seen ns) (n ∷ unseen (n ∷ seen) ns)) ≡ flat_map g (cond b (unseen seen ns) (n ∷ unseen (n ∷ seen) ns))
     at true p q = p
-    at false p q = ap (λ (z : List Event). z ++ flat_map f (unseen (n ∷ seen) ns)) (h n (has_self n ns)) ∙ ap (λ (z : List Event). g n ++ z) q
+    at false p q =
+        ap (λ (z : List Event). z ++ flat_map f (unseen (n ∷ seen) ns)) (h n (has_self n ns)) ∙ ap (λ (z : List Event). g n ++ z) q
 
 or_none : (a b : Bool) → b ≡ false → a ≡ (a || b)
 or_none true b e = refl

@@ -4,3 +4,5 @@ pub mod Rewriting
 pub mod Piling
 -- What holds of them.
 pub mod RuleLaws
+-- Worked examples.
+pub mod Examples

@@ -6,7 +6,7 @@ use Rattle.mesh_stream.specs.declared.fault.LayerName.{LayerName}
 use Rattle.mesh_stream.specs.declared.fault.LayerName.TheVariants.{Check, Clean, Clip, Compact, Renumber}
 use Rattle.mesh_stream.specs.declared.stage.Standing.{Standing}
 use Rattle.mesh_stream.specs.Meaning.{Outcome, outcome}
-use Rattle.mesh_judge.specs.Accepting.{refusal, accepted, judged}
+use Rattle.mesh_judge.specs.Accepting.{refusal, judged}
 use Rattle.mesh_rules.specs.Rewriting.{cleaned, clipped, renumbered, compacted}
 
 -- A layer, with its setting: what a clip keeps is a set of points.
@@ -49,11 +49,6 @@ pile limit (r ∷ rs) bottom = pile limit rs (through limit r bottom)
 abbrev pub rewritten_by_all : List Rule → List Event → List Event
 rewritten_by_all [] es = es
 rewritten_by_all (r ∷ rs) es = rewritten_by_all rs (rewritten r es)
-
--- What a pile has of its bottom: the accepted beginning, where there is a layer that judges it.
-abbrev pub taken_up : ℕ → List Rule → List Event → List Event
-taken_up limit [] es = es
-taken_up limit (r ∷ rs) es = accepted (refusal limit) es
 
 -- How the lowest layer alone would stand on the bottom.
 abbrev pub lowest_stands : ℕ → List Rule → Outcome Event → Standing

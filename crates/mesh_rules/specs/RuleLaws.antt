@@ -1,10 +1,32 @@
 -- What holds of the layers' rewritings, as lists: apart from any code.
-use Rattle.std.specs.Prelude.{◌≡◌, ℕ, ◌≤◌, List, [], ◌∷◌, ◌++◌}
+use Rattle.std.specs.Prelude.{◌≡◌, ℕ, suc, ◌≤◌, List, [], ◌∷◌, ◌++◌}
+use Rattle.std.specs.List.{AllByRecursion as All}
 use Rattle.mesh_stream.specs.declared.event.Event.{Event}
+use Rattle.mesh_stream.specs.declared.event.Event.TheVariants.{Vertex, Triangle, Finalization}
+use Rattle.mesh_stream.specs.Events.{introduced, point}
 use Rattle.mesh_stream.specs.Live.{live, width}
 use Rattle.mesh_stream.specs.Meaning.{Outcome, outcome, Begins}
 use Rattle.mesh_judge.specs.Accepting.{refusal, accepted, Accepted, judged}
+use Rattle.mesh_rules.specs.Rewriting.{renumbered, compacted}
 use Rattle.mesh_rules.specs.Piling.{Rule, name_of, rewritten, rewritten_by_all, pile}
+
+-- A vertex event's own coordinates are those looked up for its number.
+abbrev pub Own : List Event → Event → Type 0
+Own all (Vertex p n v) = point all n ≡ v
+Own all (Triangle p a b c) = Unit {0}
+Own all (Finalization p i) = Unit {0}
+
+-- k, k + 1, and so on.
+abbrev pub Counting : ℕ → List ℕ → Type 0
+Counting k [] = Unit {0}
+Counting k (n ∷ ns) = (n ≡ k) × Counting (suc k) ns
+
+-- Looking up in an accepted list says what it should.
+pub record Faithful (es : List Event) : Type 0 where
+  pub points : All (Own es) es
+  -- The new numbers are 1, 2, 3 and so on.
+  pub renumbered_count : Counting 1 (introduced (renumbered es))
+  pub compacted_count : Counting 1 (introduced (compacted es))
 
 pub record RewritingLaws (limit : ℕ) (r : Rule) (es : List Event) : Type 0 where
   -- What is made of an accepted list is accepted,
@@ -26,5 +48,6 @@ pub record PileLaws (limit : ℕ) (r : Rule) (rs : List Rule) (bottom : Outcome 
   pub none_live : live (accepted (refusal limit) bottom.items) ≡ [] → live (pile limit (r ∷ rs) bottom).items ≡ []
 
 pub record Laws : Type 0 where
+  pub of_looking_up : (limit : ℕ) (es : List Event) → Accepted (refusal limit) es → Faithful es
   pub of_rewritings : (limit : ℕ) (r : Rule) (es : List Event) → Accepted (refusal limit) es → RewritingLaws limit r es
   pub of_piles : (limit : ℕ) (r : Rule) (rs : List Rule) (bottom : Outcome Event) → PileLaws limit r rs bottom

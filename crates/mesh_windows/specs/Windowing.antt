@@ -33,7 +33,8 @@ pub record Work (T : Type 0) : Type 0 where
 
 -- The memory after an accepted event.
 abbrev pub moves_on : {T : Type 0} → Work T → Memory T → Event → Memory T
-moves_on work m (Vertex p n v) = remembers (enters m.window n (record { place = p; at = v; note = work.notes m.given v })) (work.gives m.given)
+moves_on work m (Vertex p n v) =
+    remembers (enters m.window n (record { place = p; at = v; note = work.notes m.given v })) (work.gives m.given)
 moves_on work m (Triangle p a b c) = work.marks (remembers (counted m.window) m.given) a b c
 moves_on work m (Finalization p i) = remembers (leaves m.window i) m.given
 

@@ -3,7 +3,7 @@ ghost use Rattle.mesh_stream.specs.declared.event.Event.{Event as MeshEvent};
 ghost use Rattle.mesh_stream.specs.Meaning.{Outcome};
 ghost use Rattle.mesh_rules.specs.Piling.{Rule, through};
 ghost use Rattle.mesh_layer.specs.Law.{PutOn};
-ghost use Rattle.mesh_layer.specs.Layering.{seen};
+ghost use Rattle.mesh_layer.specs.Layering.{seen, Made};
 
 use super::Layer;
 use crate::filter::Filter;
@@ -26,9 +26,11 @@ impl<S: Stage, F: Filter<In = S::Item>> Layer<S, F> {
 }
 
 impl<S: Stage<Item = Event>, F: Filter<In = Event, Out = Event>> Layer<S, F> {
-    // Puts a layer on a stage.
+    // Puts a layer on a stage. Where its filter does what a rule says, it is one layer more of a pile.
     pub fn over(below: S, filter: F) -> Layer<S, F>
-        ensures { (limit : ℕ) (rule : Rule) → ((o : Outcome MeshEvent) → F.Filter.rewrites filter F.Filter.empty o ≡ through limit rule o)
+        ensures made { Made (F.Filter.rewrites filter F.Filter.empty) (seen S.Stage below) (seen ⟦<Layer<S, F> as Stage>⟧ result) }
+        ensures rule { (limit : ℕ) (rule : Rule)
+            → ((o : Outcome MeshEvent) → F.Filter.rewrites filter F.Filter.empty o ≡ through limit rule o)
             → PutOn limit rule (seen S.Stage below) (seen ⟦<Layer<S, F> as Stage>⟧ result) }
     {
         Layer::start(below, filter)

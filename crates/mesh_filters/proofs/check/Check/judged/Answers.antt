@@ -7,13 +7,13 @@ use Rattle.mesh_filters.proofs.check.Check.judged.Goals as goal
 pub returns-in_err-triangle-in-Triangle : goal.returns-in_err-triangle-in-Triangle
 returns-in_err-triangle-in-Triangle c =
     let no = c.in_err-triangle-in-Triangle.ensures c.in-Triangle.place in
-    rw c.in-Triangle.is (not_handed check_work _ _ 0 0 _ events_of _ _ no c.from_residual-in_err-triangle-in-Triangle.ensures.1)
+    rw c.in-Triangle.is (not_handed check_work _ _ 0 _ events_of _ _ no c.from_residual-in_err-triangle-in-Triangle.ensures.1)
 
 pub returns-in_err-finalization-in-Finalization : goal.returns-in_err-finalization-in-Finalization
 returns-in_err-finalization-in-Finalization c =
     let no = c.in_err-finalization-in-Finalization.ensures c.in-Finalization.place in
     let is = c.from_residual-in_err-finalization-in-Finalization.ensures.1 in
-    rw c.in-Finalization.is (not_handed check_work _ _ 0 0 _ events_of _ _ no is)
+    rw c.in-Finalization.is (not_handed check_work _ _ 0 _ events_of _ _ no is)
 
 pub returns-in_ok-triangle-in-Triangle : goal.returns-in_ok-triangle-in-Triangle
 returns-in_ok-triangle-in-Triangle c =

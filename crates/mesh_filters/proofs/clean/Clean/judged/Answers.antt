@@ -11,13 +11,13 @@ use Rattle.mesh_filters.proofs.clean.Clean.judged.Goals.{in-Vertex+in_ok-vertex-
 pub returns-in_err-a-in-Triangle : goal.returns-in_err-a-in-Triangle
 returns-in_err-a-in-Triangle c =
     let no = c.in_err-a-in-Triangle.ensures c.in-Triangle.place in
-    rw c.in-Triangle.is (not_handed clean_work _ _ 0 0 _ events_of _ _ no c.from_residual-in_err-a-in-Triangle.ensures.1)
+    rw c.in-Triangle.is (not_handed clean_work _ _ 0 _ events_of _ _ no c.from_residual-in_err-a-in-Triangle.ensures.1)
 
 pub returns-in_err-finalization-in-Finalization : goal.returns-in_err-finalization-in-Finalization
 returns-in_err-finalization-in-Finalization c =
     let no = c.in_err-finalization-in-Finalization.ensures c.in-Finalization.place in
     let is = c.from_residual-in_err-finalization-in-Finalization.ensures.1 in
-    rw c.in-Finalization.is (not_handed clean_work _ _ 0 0 _ events_of _ _ no is)
+    rw c.in-Finalization.is (not_handed clean_work _ _ 0 _ events_of _ _ no is)
 
 pub returns : goal.returns
 returns c =

@@ -14,13 +14,13 @@ pub returns-in_err-triangle-in-Triangle-clause-handed : goal.returns-in_err-tria
 returns-in_err-triangle-in-Triangle-clause-handed g c =
     let work = clip_work (g.R.Region.inside c.args.self.now.region) in
     let no = c.in_err-triangle-in-Triangle.ensures c.in-Triangle.place in
-    rw c.in-Triangle.is (not_handed work _ _ 0 0 _ events_of _ _ no c.from_residual-in_err-triangle-in-Triangle.ensures.1)
+    rw c.in-Triangle.is (not_handed work _ _ 0 _ events_of _ _ no c.from_residual-in_err-triangle-in-Triangle.ensures.1)
 
 pub returns-in_err-kept-in-Finalization-clause-handed : goal.returns-in_err-kept-in-Finalization-clause-handed
 returns-in_err-kept-in-Finalization-clause-handed g c =
     let work = clip_work (g.R.Region.inside c.args.self.now.region) in
     let no = c.in_err-kept-in-Finalization.ensures c.in-Finalization.place in
-    rw c.in-Finalization.is (not_handed work _ _ 0 0 _ events_of _ _ no c.from_residual-in_err-kept-in-Finalization.ensures.1)
+    rw c.in-Finalization.is (not_handed work _ _ 0 _ events_of _ _ no c.from_residual-in_err-kept-in-Finalization.ensures.1)
 
 pub returns-clause-handed : goal.returns-clause-handed
 returns-clause-handed g c =

@@ -8,7 +8,7 @@ use Rattle.mesh_filters.proofs.compact.Compact.finalization.Goals as goal
 
 pub returns-in_err-kept : goal.returns-in_err-kept
 returns-in_err-kept c =
-    not_handed compact_work _ _ c.args.self.now.given c.args.self.now.given (Finalization c.args.place c.args.vertex) listed _ _
+    not_handed compact_work _ _ c.args.self.now.given (Finalization c.args.place c.args.vertex) listed _ _
     (c.in_err-kept.ensures c.args.place) c.from_residual.ensures.1
 
 pub returns : goal.returns

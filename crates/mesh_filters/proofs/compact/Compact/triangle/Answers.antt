@@ -12,7 +12,7 @@ use Rattle.mesh_filters.proofs.compact.Compact.triangle.Goals as goal
 pub returns-in_err-corners : goal.returns-in_err-corners
 returns-in_err-corners c =
     let e = Triangle c.args.place c.args.a c.args.b c.args.c in
-    not_handed compact_work _ _ c.args.self.now.given c.args.self.now.given e listed _ _ (c.in_err-corners.ensures c.args.place) c.from_residual.ensures.1
+    not_handed compact_work _ _ c.args.self.now.given e listed _ _ (c.in_err-corners.ensures c.args.place) c.from_residual.ensures.1
 
 pub number-first-requires : goal.number-first-requires
 number-first-requires c =

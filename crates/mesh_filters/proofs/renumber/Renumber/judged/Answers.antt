@@ -11,13 +11,13 @@ pub returns-in_err-a-in-Triangle : goal.returns-in_err-a-in-Triangle
 returns-in_err-a-in-Triangle c =
     let n = c.args.self.now.given in
     let no = c.in_err-a-in-Triangle.ensures c.in-Triangle.place in
-    rw c.in-Triangle.is (not_handed renumber_work _ _ n n _ events_of _ _ no c.from_residual-in_err-a-in-Triangle.ensures.1)
+    rw c.in-Triangle.is (not_handed renumber_work _ _ n _ events_of _ _ no c.from_residual-in_err-a-in-Triangle.ensures.1)
 
 pub returns-in_err-kept-in-Finalization : goal.returns-in_err-kept-in-Finalization
 returns-in_err-kept-in-Finalization c =
     let n = c.args.self.now.given in
     let no = c.in_err-kept-in-Finalization.ensures c.in-Finalization.place in
-    rw c.in-Finalization.is (not_handed renumber_work _ _ n n _ events_of _ _ no c.from_residual-in_err-kept-in-Finalization.ensures.1)
+    rw c.in-Finalization.is (not_handed renumber_work _ _ n _ events_of _ _ no c.from_residual-in_err-kept-in-Finalization.ensures.1)
 
 pub returns-in_ok-a-in-Triangle : goal.returns-in_ok-a-in-Triangle
 returns-in_ok-a-in-Triangle c =
