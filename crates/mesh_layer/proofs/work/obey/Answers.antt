@@ -2,7 +2,7 @@ use Rattle.std.proofs.Common.{refl, sym, subst}
 use Rattle.mesh_stream.specs.Runs.{feeds, closes, asks}
 use Rattle.mesh_layer.specs.declared.order.Order.{Order}
 use Rattle.mesh_layer.specs.declared.order.Reply.TheVariants.{Fed, Closed, Gave}
-use Rattle.mesh_layer.specs.Ordering.{IsCall}
+use Rattle.mesh_layer.specs.Orders.{IsCall}
 use Rattle.mesh_layer.proofs.work.obey.Goals as goal
 
 pub returns-in-Feed : goal.returns-in-Feed
