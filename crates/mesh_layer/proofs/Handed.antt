@@ -1,6 +1,6 @@
 -- What holds of every beginning of an accepted list, and of an accepted list that leaves no vertex live.
 use Rattle.std.proofs.Common.{◌≡◌, ℕ, suc, ◌≤◌, Bool, true, false, not, eqb, List, [], ◌∷◌, ◌++◌, length, filter, None, sym, refl, ap, ◌∙◌, subst, inl, inr, append_assoc, append-nil, arith}
-use Rattle.std.proofs.lemmas.Bool.{both_ways, eqb-true, or_cases, or_parts, and_parts, and_from}
+use Rattle.std.proofs.lemmas.Bool.{both_ways, eqb-true, or_cases, or_parts, and_from}
 use Rattle.mesh_stream.specs.declared.event.Event.{Event}
 use Rattle.mesh_stream.specs.declared.event.Event.TheVariants.{Vertex, Triangle, Finalization}
 use Rattle.mesh_stream.specs.Lists.{has}
@@ -12,16 +12,9 @@ use Rattle.mesh_stream.proofs.Distinct.{Distinct, distinct_push}
 use Rattle.mesh_judge.specs.Accepting.{refusal, Accepted, AcceptedAfter}
 use Rattle.mesh_judge.proofs.Refusing.{triangle_ok, final_ok}
 use Rattle.mesh_judge.proofs.Living.{live_introduced}
+use Rattle.mesh_rules.proofs.Living.{live_not_final}
 use Rattle.mesh_rules.proofs.Beginnings.{accepted_parts}
 use Rattle.mesh_layer.specs.Law.{WellFormed, ClosedOff}
-
--- What is live was introduced, and is not finalized.
-not_final : (es : List Event) (n : ℕ) → is_live es n ≡ true → has n (finalized es) ≡ false
-not_final es n h = at (has n (finalized es)) (and_parts _ _ (sym (has_filter (λ m. not (has m (finalized es))) n (introduced es)) ∙ h)).0
-  where
-    at : (b : Bool) → not b ≡ true → b ≡ false
-    at true e = sym e
-    at false e = refl
 
 corner_live : (es : List Event) (a b c n : ℕ) → is_live es a ≡ true → is_live es b ≡ true → is_live es c ≡ true
     → has n (a ∷ b ∷ c ∷ []) ≡ true → is_live es n ≡ true
@@ -41,7 +34,7 @@ well_formed limit es h before after p a b c n e k =
     let parts = accepted_parts (refusal limit) before (Triangle p a b c ∷ after) [] (subst (Accepted (refusal limit)) e h) in
     let ok = triangle_ok limit before p a b c parts.1.0 in
     let l = corner_live before a b c n ok.first ok.second ok.third k in
-    (live_introduced before n l, not_final before n l)
+    (live_introduced before n l, live_not_final before n l)
 
 -- No vertex is finalized twice.
 distinct_after : (limit : ℕ) (es before : List Event) → Distinct (finalized before) → AcceptedAfter (refusal limit) before es
@@ -54,7 +47,7 @@ distinct_after limit (e ∷ es) before d (a, h) =
     step (Vertex l n v) r = subst Distinct (sym (finalized_v before l n v)) d
     step (Triangle l i j k) r = subst Distinct (sym (finalized_t before l i j k)) d
     step (Finalization l i) r =
-        subst Distinct (sym (finalized_f before l i)) (distinct_push (finalized before) i d (not_final before i (final_ok limit before l i r)))
+        subst Distinct (sym (finalized_f before l i)) (distinct_push (finalized before) i d (live_not_final before i (final_ok limit before l i r)))
 
 none_counted : (n : ℕ) (xs : List ℕ) → has n xs ≡ false → length (filter (λ m. eqb n m) xs) ≡ 0
 none_counted n [] h = refl

@@ -7,7 +7,7 @@ use Rattle.mesh_layer.specs.declared.order.Order.{Order}
 use Rattle.mesh_layer.specs.declared.order.Order.TheVariants.{Feed, Close, Next}
 use Rattle.mesh_layer.specs.declared.order.Reply.{Reply}
 use Rattle.mesh_layer.specs.declared.order.Reply.TheVariants.{Fed, Closed, Gave}
-use Rattle.mesh_layer.specs.Ordering.{IsCall, AreCalls, Obeyed, LawfulRun}
+use Rattle.mesh_layer.specs.Orders.{IsCall, AreCalls, Obeyed, LawfulRun}
 use Rattle.mesh_layer.proofs.Keeping.{keeps_law}
 
 pub run_push : {I : Type 0} (cs : List (Call I)) (v w u : View I) (c : Call I) → Run v cs w → Step w c u → Run v (cs ++ (c ∷ [])) u

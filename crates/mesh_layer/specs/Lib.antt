@@ -8,4 +8,4 @@ pub mod MachineLaw
 -- The law on runs.
 pub mod Law
 -- Orders worked off.
-pub mod Ordering
+pub mod Orders

@@ -1,6 +1,6 @@
 ghost use Rattle.std.specs.Prelude.{◌≡◌};
 ghost use Rattle.mesh_layer.specs.Layering.{seen};
-ghost use Rattle.mesh_layer.specs.Ordering.{Obeyed, WorkedOff, AskedOn};
+ghost use Rattle.mesh_layer.specs.Orders.{Obeyed, WorkedOff, AskedOn};
 
 use crate::order::{Order, Reply};
 use mesh_stream::event::Event;

@@ -1,6 +1,6 @@
 use Rattle.std.proofs.Common.{◌≡◌, ℕ, ◌∷◌, [], ◌++◌, length-set, take, subst, ◌∙◌, arith}
 use Rattle.std.proofs.lemmas.List.{drop-set-lt}
-use Rattle.mesh_layer.specs.Ordering.{AreCalls}
+use Rattle.mesh_layer.specs.Orders.{AreCalls}
 use Rattle.mesh_layer.proofs.Runs.{run_push, calls_more, lawful_run, call_of}
 use Rattle.mesh_layer.specs.Layering.{seen}
 use Rattle.mesh_layer.proofs.work.work_off.Goals as goal

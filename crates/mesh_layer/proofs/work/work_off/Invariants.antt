@@ -2,7 +2,7 @@ use Rattle.std.proofs.Common.{◌≡◌, ℕ, ◌≤◌, List, length, take, dro
 use Rattle.mesh_stream.specs.declared.event.Event.{Event}
 use Rattle.mesh_stream.specs.Runs.{Call, Run}
 use Rattle.mesh_layer.specs.Layering.{seen}
-use Rattle.mesh_layer.specs.Ordering.{AreCalls}
+use Rattle.mesh_layer.specs.Orders.{AreCalls}
 use Rattle.mesh_layer.proofs.work.work_off.Given as goal
 
 abbrev pub invariant-loop-i : goal.invariant-loop-i
