@@ -4,85 +4,82 @@ use mesh_bottoms::list::ListStage;
 use mesh_piles::pile::{check, clean, clip, compact, renumber};
 use mesh_reader::reader::TextReader;
 use mesh_regions::half_space::HalfSpace;
-use mesh_stream::event::Event;
 use mesh_stream::fault::{Cause, LayerName};
 use mesh_stream::stage::{Inlet, Stage, Standing};
+use std::alloc::Global;
 use std::process::Abort;
 use std::test::Fail;
 
-fn everywhere() -> Result<HalfSpace, Fail> {
-    Ok(HalfSpace::new(0, 0, 0, 0)?)
+fn fed(rt: &impl Abort, text: &[u8]) -> Result<TextReader, Fail> {
+    let mut reader = TextReader::new();
+    assert_eq!(rt; reader.feed(text)?, text.len());
+    reader.close()?;
+    Ok(reader)
 }
 
-// All five layers, put on the stage, give nothing and stand so.
-fn check_five_stand<S: Stage<Item = Event> + Drop>(
-    rt: &impl Abort,
-    below: S,
-    standing: Standing,
-) -> Result<(), Fail> {
-    let lower = clip(clean(check(below)), everywhere()?);
-    check_gives(rt, &mut renumber(compact(lower)), &[], standing);
-    Ok(())
+// All five layers over the text hand over no event, and stand so.
+fn check_five(rt: &impl Abort, heap: Global, text: &[u8], expected: &str) -> Result<(), Fail> {
+    let lower = clean(check(fed(rt, text)?));
+    let everywhere = HalfSpace::new(0, 0, 0, 0)?;
+    let mut pile = renumber(compact(clip(lower, everywhere)));
+    check_tells(rt, heap, &mut pile, expected)
 }
 
 #[test]
-fn a_fault_passes_through_five_layers(rt: HostRuntime) -> Result<(), Fail> {
-    let records = [
-        vertex(0, 1, 0, 0, 0),
-        vertex(0, 2, 10, 0, 0),
-        triangle(0, 1, 2, 3),
-        finalization(0, 4),
-    ];
-    let fault = Standing::faulty(LayerName::Check, Cause::CornerNotLive, 3);
-    check_five_stand(&rt, ListStage::new(&records), fault)?;
-    let mut reader = TextReader::new();
-    assert_eq!(rt; reader.feed(b"v 0 0 0\nv 1 2\nx 3\n")?, 18);
-    let fault = Standing::faulty(LayerName::Reader, Cause::WordCount, 2);
-    check_five_stand(&rt, reader, fault)
+fn faults_pass_through_five_layers(rt: HostRuntime) -> Result<(), Fail> {
+    let heap = rt.alloc();
+    check_five(&rt, heap, b"v 0 0 0\nf 1 1 2\nx 4\n", "fault check 10 2")?;
+    check_five(&rt, heap, b"v 0 0 0\nv 1 2\nx 3\n", "fault reader 4 2")
 }
 
-// The list ends while its vertices 4 and 6 are live.
+// The text ends while its vertices 2 and 3 are live.
 #[test]
 fn an_end_too_early(rt: HostRuntime) -> Result<(), Fail> {
-    let records = [
-        vertex(0, 2, 0, 0, 0),
-        vertex(0, 4, 1, 0, 0),
-        vertex(0, 6, 2, 0, 0),
-        finalization(0, 2),
-    ];
-    let list = || ListStage::new(&records);
-    let fault = |layer| Err(Standing::faulty(layer, Cause::LeftLive, 2));
-    assert_eq!(rt; last(check(list())), fault(LayerName::Check));
-    assert_eq!(rt; last(clean(list())), fault(LayerName::Clean));
-    let clipped = clip(list(), everywhere()?);
-    assert_eq!(rt; last(clipped), fault(LayerName::Clip));
-    assert_eq!(rt; last(compact(list())), fault(LayerName::Compact));
-    assert_eq!(rt; last(renumber(list())), fault(LayerName::Renumber));
-    Ok(())
-}
-
-// What the stage answers to its fifth next.
-fn last<S: Stage<Item = Event> + Drop>(mut stage: S) -> Result<Event, Standing> {
-    for _ in 0..4 {
-        let _ = stage.next();
-    }
-    stage.next()
+    let heap = rt.alloc();
+    let text = b"#\nv 0 0 0\nv 1 0 0\nv 2 0 0\nx 1\n";
+    let all = "v 1 0 0 0 @2, v 2 1 0 0 @3, v 3 2 0 0 @4, x 1 @5, ";
+    let mut pile = check(fed(&rt, text)?);
+    check_tells(
+        &rt,
+        heap,
+        &mut pile,
+        &format!(in heap; "{all}fault check 12 3")?,
+    )?;
+    let mut pile = clean(fed(&rt, text)?);
+    check_tells(
+        &rt,
+        heap,
+        &mut pile,
+        &format!(in heap; "{all}fault clean 12 3")?,
+    )?;
+    let mut pile = renumber(fed(&rt, text)?);
+    check_tells(
+        &rt,
+        heap,
+        &mut pile,
+        &format!(in heap; "{all}fault renumber 12 3")?,
+    )?;
+    // with no vertex inside
+    let mut pile = clip(fed(&rt, text)?, HalfSpace::new(0, 0, 0, -1)?);
+    check_tells(&rt, heap, &mut pile, "fault clip 12 3")?;
+    // with no vertex named
+    let mut pile = compact(fed(&rt, text)?);
+    check_tells(&rt, heap, &mut pile, "fault compact 12 3")
 }
 
 #[test]
 fn one_live_vertex_too_many(rt: HostRuntime) -> Result<(), Fail> {
-    let mut records = [vertex(0, 1, 0, 0, 0); 1025];
+    let mut records = [vertex(1, 0, 0, 0); 1025];
     for i in 0..1025 {
-        records[i] = vertex(0, u32::try_from(i + 1)?, 0, 0, 0);
+        records[i] = vertex(u32::try_from(i + 1)?, 0, 0, 0);
     }
     let mut pile = check(ListStage::new(&records));
     for place in 1..=1024 {
-        assert_eq!(rt; pile.next(), Ok(vertex(place, place, 0, 0, 0)));
+        let event = vertex(place, 0, 0, 0).placed_at(place);
+        assert_eq!(rt; pile.next(), Ok(event));
     }
     let fault = Standing::faulty(LayerName::Check, Cause::TooManyLive, 1025);
-    check_gives(&rt, &mut pile, &[], fault);
+    assert_eq!(rt; pile.next(), Err(fault));
     let mut pile = compact(ListStage::new(&records));
-    let fault = Standing::faulty(LayerName::Compact, Cause::TooManyLive, 1025);
-    check_gives(&rt, &mut pile, &[], fault);
-    Ok(())
+    check_tells(&rt, rt.alloc(), &mut pile, "fault compact 9 1025")
 }

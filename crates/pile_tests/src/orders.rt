@@ -13,22 +13,20 @@ fn a_log_shorter_than_the_orders(rt: HostRuntime) {
     let mut pile = check(TextReader::new());
     let orders = [
         Order::Next,
-        Order::Feed(b"v 1 2 3\nx 1"),
-        Order::Next,
+        Order::Feed(b"x 1\nx 1"),
         Order::Next,
         Order::Close,
-        Order::Next,
     ];
-    let mut log = [Reply::Closed(Ok(())); 4];
-    assert_eq!(rt; work_off(&mut pile, &orders, &mut log), 4);
+    let mut log = [Reply::Closed(Ok(())); 3];
+    assert_eq!(rt; work_off(&mut pile, &orders, &mut log), 3);
+    let fault = Standing::faulty(LayerName::Check, Cause::NotLive, 1);
     let replies = [
         Reply::Gave(Err(Standing::Waiting)),
-        Reply::Fed(Ok(11)),
-        Reply::Gave(Ok(vertex(1, 1, 1, 2, 3))),
-        Reply::Gave(Err(Standing::Waiting)),
+        Reply::Fed(Ok(7)),
+        Reply::Gave(Err(fault)),
     ];
     assert_eq!(rt; log, replies);
-    assert_eq!(rt; pile.room(), 4093);
+    assert_eq!(rt; pile.close(), Ok(()));
 }
 
 // The entry that no order is for stays as it is.
@@ -48,29 +46,14 @@ fn a_log_longer_than_the_orders(rt: HostRuntime) {
     assert_eq!(rt; log, replies);
 }
 
-// The layer that is put on judges and numbers only what is still to come.
+// The layer that is put on judges and numbers only what is still to come: vertex 1 was handed over before.
 #[test]
 fn a_layer_on_a_pile_at_work(rt: HostRuntime) -> Result<(), Fail> {
     let mut pile = check(TextReader::new());
-    assert_eq!(rt; pile.feed(b"v 0 0 0\nx 1\nv 5 5 5\n")?, 20);
-    assert_eq!(rt; pile.next(), Ok(vertex(1, 1, 0, 0, 0)));
-    assert_eq!(rt; pile.next(), Ok(finalization(2, 1)));
+    assert_eq!(rt; pile.feed(b"v 0 0 0\nv 5 5 5\nx 2\n")?, 20);
+    assert_eq!(rt; pile.next(), Ok(vertex(1, 0, 0, 0).placed_at(1)));
     let mut pile = renumber(pile);
-    assert_eq!(rt; pile.feed(b"x 2")?, 3);
-    pile.close()?;
-    let events = [vertex(3, 1, 5, 5, 5), finalization(4, 1)];
-    check_gives(&rt, &mut pile, &events, Standing::Ended);
-    Ok(())
-}
-
-// Vertex 1 was handed over before the layer was put on.
-#[test]
-fn a_layer_put_on_too_late(rt: HostRuntime) -> Result<(), Fail> {
-    let mut pile = check(TextReader::new());
-    assert_eq!(rt; pile.feed(b"v 0 0 0\nv 5 5 5\nf 1 1 2\n")?, 24);
-    assert_eq!(rt; pile.next(), Ok(vertex(1, 1, 0, 0, 0)));
-    let mut pile = renumber(pile);
-    let fault = Standing::faulty(LayerName::Renumber, Cause::CornerNotLive, 3);
-    check_gives(&rt, &mut pile, &[vertex(2, 1, 5, 5, 5)], fault);
-    Ok(())
+    check_tells(&rt, rt.alloc(), &mut pile, "v 1 5 5 5 @2, x 1 @3, waiting")?;
+    assert_eq!(rt; pile.feed(b"x 1\n")?, 4);
+    check_tells(&rt, rt.alloc(), &mut pile, "fault renumber 11 4")
 }
