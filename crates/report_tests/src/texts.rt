@@ -1,7 +1,8 @@
 // Reports on texts that are pushed in pieces.
 ghost use Rattle.std.specs.Iterator.{IsFinite};
 
-use mesh_report::stream_report::text::text_report;
+use mesh_reader::reader::TextReader;
+use mesh_report::stream_report::StreamReport;
 use std::iter::{once, repeat_n};
 use std::process::Abort;
 use std::str::from_utf8;
@@ -46,7 +47,7 @@ fn check_pieces<'a, I: Iterator<Item = &'a [u8]> + Drop>(
     requires can_next { I.can_next pieces }
     requires ends { IsFinite (I.remaining pieces) }
 {
-    let mut report = text_report();
+    let mut report = StreamReport::new(TextReader::new());
     for piece in pieces {
         report.push(piece);
     }
