@@ -1,6 +1,6 @@
 -- What holds of the layers' rewritings, as lists: apart from any code.
 use Rattle.std.specs.Prelude.{◌≡◌, ℕ, suc, ◌≤◌, List, [], ◌∷◌, ◌++◌}
-use Rattle.std.specs.List.{AllByRecursion as All}
+use Rattle.std.specs.List.{AllByRecursion}
 use Rattle.mesh_stream.specs.declared.event.Event.{Event}
 use Rattle.mesh_stream.specs.declared.event.Event.TheVariants.{Vertex, Triangle, Finalization}
 use Rattle.mesh_stream.specs.Events.{introduced, point}
@@ -23,7 +23,7 @@ Counting k (n ∷ ns) = (n ≡ k) × Counting (suc k) ns
 
 -- Looking up in an accepted list says what it should.
 pub record Faithful (es : List Event) : Type 0 where
-  pub points : All (Own es) es
+  pub points : AllByRecursion (Own es) es
   -- The new numbers are 1, 2, 3 and so on.
   pub renumbered_count : Counting 1 (introduced (renumbered es))
   pub compacted_count : Counting 1 (introduced (compacted es))
