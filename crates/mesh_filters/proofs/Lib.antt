@@ -2,6 +2,6 @@
 pub mod Handing
 pub mod Kept
 pub mod Products
-pub mod Passing
+pub mod Bits
 -- Compact.
 pub mod Marking

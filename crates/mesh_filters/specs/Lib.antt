@@ -5,3 +5,5 @@ pub mod Near
 pub mod Vectors
 -- What compact makes of one corner, and what it has to hand over for one event.
 pub mod Compacting
+-- What each filter makes.
+pub mod Making

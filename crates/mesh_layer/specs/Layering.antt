@@ -11,6 +11,9 @@ use Rattle.mesh_layer.specs.LayeringLaw.{unless_faulty, layered_lawful, unless_f
 abbrev pub seen : {S I : Type 0} → StageGhosts S I → S → View I
 seen stage s = viewed (stage.port s) (stage.meaning s) (stage.lawful s)
 
+abbrev pub stage_below : {S F I O R : Type 0} → Layer S F I O R → S
+stage_below l = l.below
+
 -- What a layer makes of what is still to come from below.
 abbrev pub makes : {S F I O R : Type 0} → FilterGhosts F I O R → Layer S F I O R → Outcome I → Outcome O
 makes filter l = unless_faulty l.fault (filter.rewrites l.filter l.rest)

@@ -3,3 +3,4 @@ pub mod Making
 -- The regions.
 pub mod Boxes
 pub mod HalfSpaces
+pub mod Sets

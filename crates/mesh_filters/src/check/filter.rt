@@ -1,7 +1,7 @@
 ghost use Rattle.std.specs.Prelude.{refl, None};
-ghost use Rattle.mesh_stream.specs.declared.fault.LayerName.TheVariants.{Check as Checking};
 ghost use Rattle.mesh_windows.specs.Working.{check_work};
-ghost use Rattle.mesh_filters.specs.Handing.{events_of, means, means_filters, Handed};
+ghost use Rattle.mesh_filters.specs.Handing.{events_of, Handed};
+ghost use Rattle.mesh_filters.specs.Making.{check_filters, check_makes};
 
 use crate::check::Check;
 use crate::fault::or_fault;
@@ -41,9 +41,9 @@ impl Filter for Check {
 
     ghost empty = { None };
 
-    ghost rewrites = { λ f rest. means Checking check_work f.judge 0 (events_of rest) };
+    ghost rewrites = { check_makes };
 
-    ghost filters = { λ f rest. means_filters Checking check_work f.judge 0 (events_of rest) };
+    ghost filters = { check_filters };
 
     ghost waits = { λ f. refl };
 

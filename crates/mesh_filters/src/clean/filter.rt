@@ -1,7 +1,7 @@
 ghost use Rattle.std.specs.Prelude.{refl, None};
-ghost use Rattle.mesh_stream.specs.declared.fault.LayerName.TheVariants.{Clean as Cleaning};
 ghost use Rattle.mesh_windows.specs.Working.{clean_work};
-ghost use Rattle.mesh_filters.specs.Handing.{events_of, means, means_filters, Handed};
+ghost use Rattle.mesh_filters.specs.Handing.{events_of, Handed};
+ghost use Rattle.mesh_filters.specs.Making.{clean_filters, clean_makes};
 
 use crate::clean::Clean;
 use crate::clean::degenerate::is_degenerate;
@@ -45,9 +45,9 @@ impl Filter for Clean {
 
     ghost empty = { None };
 
-    ghost rewrites = { λ f rest. means Cleaning clean_work f.judge 0 (events_of rest) };
+    ghost rewrites = { clean_makes };
 
-    ghost filters = { λ f rest. means_filters Cleaning clean_work f.judge 0 (events_of rest) };
+    ghost filters = { clean_filters };
 
     ghost waits = { λ f. refl };
 

@@ -1,7 +1,7 @@
 ghost use Rattle.std.specs.Prelude.{refl, ◌≡◌, ◌&&◌, None};
-ghost use Rattle.mesh_stream.specs.declared.fault.LayerName.TheVariants.{Clip as Clipping};
 ghost use Rattle.mesh_windows.specs.Working.{clip_work};
-ghost use Rattle.mesh_filters.specs.Handing.{events_of, means, means_filters, Handed};
+ghost use Rattle.mesh_filters.specs.Handing.{events_of, Handed};
+ghost use Rattle.mesh_filters.specs.Making.{clip_filters, clip_makes};
 
 use crate::clip::Clip;
 use crate::fault::or_fault;
@@ -48,9 +48,9 @@ impl<R: Region> Filter for Clip<R> {
 
     ghost empty = { None };
 
-    ghost rewrites = { λ f rest. means Clipping (clip_work (R.Region.inside f.region)) f.judge 0 (events_of rest) };
+    ghost rewrites = { clip_makes R.Region.inside };
 
-    ghost filters = { λ f rest. means_filters Clipping (clip_work (R.Region.inside f.region)) f.judge 0 (events_of rest) };
+    ghost filters = { clip_filters R.Region.inside };
 
     ghost waits = { λ f. refl };
 

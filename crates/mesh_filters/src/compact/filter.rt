@@ -1,8 +1,8 @@
 ghost use Rattle.std.specs.Prelude.{refl};
 ghost use Rattle.mesh_stream.specs.declared.event.Event.TheVariants.{Vertex, Triangle, Finalization};
-ghost use Rattle.mesh_stream.specs.declared.fault.LayerName.TheVariants.{Compact as Compacting};
 ghost use Rattle.mesh_windows.specs.Working.{compact_work};
-ghost use Rattle.mesh_filters.specs.Handing.{means, means_filters, Handed};
+ghost use Rattle.mesh_filters.specs.Handing.{Handed};
+ghost use Rattle.mesh_filters.specs.Making.{compact_filters, compact_makes};
 ghost use Rattle.mesh_filters.specs.Compacting.{nothing, listed};
 
 use crate::compact::Compact;
@@ -78,9 +78,9 @@ impl Filter for Compact {
 
     ghost empty = { nothing };
 
-    ghost rewrites = { λ f rest. means Compacting compact_work f.judge f.given (listed rest) };
+    ghost rewrites = { compact_makes };
 
-    ghost filters = { λ f rest. means_filters Compacting compact_work f.judge f.given (listed rest) };
+    ghost filters = { compact_filters };
 
     ghost waits = { λ f. refl };
 

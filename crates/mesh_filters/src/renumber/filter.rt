@@ -1,7 +1,7 @@
 ghost use Rattle.std.specs.Prelude.{refl, None};
-ghost use Rattle.mesh_stream.specs.declared.fault.LayerName.TheVariants.{Renumber as Renumbering};
 ghost use Rattle.mesh_windows.specs.Working.{renumber_work};
-ghost use Rattle.mesh_filters.specs.Handing.{events_of, means, means_filters, Handed};
+ghost use Rattle.mesh_filters.specs.Handing.{events_of, Handed};
+ghost use Rattle.mesh_filters.specs.Making.{renumber_filters, renumber_makes};
 
 use crate::fault::or_fault;
 use crate::renumber::Renumber;
@@ -57,9 +57,9 @@ impl Filter for Renumber {
 
     ghost empty = { None };
 
-    ghost rewrites = { λ f rest. means Renumbering renumber_work f.judge f.given (events_of rest) };
+    ghost rewrites = { renumber_makes };
 
-    ghost filters = { λ f rest. means_filters Renumbering renumber_work f.judge f.given (events_of rest) };
+    ghost filters = { renumber_filters };
 
     ghost waits = { λ f. refl };
 

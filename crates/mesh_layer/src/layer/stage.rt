@@ -1,7 +1,7 @@
 ghost use Rattle.std.specs.Prelude.{◌≡◌, None};
 ghost use Rattle.mesh_stream.specs.Calls.{Nexted};
 ghost use Rattle.mesh_layer.specs.Filtering.{Asks};
-ghost use Rattle.mesh_layer.specs.Layering.{makes, seen_through, Took};
+ghost use Rattle.mesh_layer.specs.Layering.{makes, seen_through, stage_below, Took};
 
 use super::Layer;
 use crate::filter::Filter;
@@ -40,7 +40,7 @@ impl<S: Stage, F: Filter<In = S::Item>> Stage for Layer<S, F> {
     fn next(&mut self) -> Result<F::Out, Standing>
         ensures rule { Nexted (seen_through S.Stage F.Filter self.old).port (seen_through S.Stage F.Filter self.old).means result
             (seen_through S.Stage F.Filter self.new).port (seen_through S.Stage F.Filter self.new).means }
-        ensures asks { Asks (makes F.Filter self.old) (S.Stage.meaning self.old.below) (S.Stage.meaning self.new.below) }
+        ensures asks { Asks (makes F.Filter self.old) (S.Stage.meaning (stage_below self.old)) (S.Stage.meaning (stage_below self.new)) }
     {
         loop {
             if let Some(fault) = self.fault {

@@ -1,11 +1,11 @@
-ghost use Rattle.mesh_regions.specs.Boxes.{in_box};
+ghost use Rattle.mesh_regions.specs.Sets.{box_points};
 
 use crate::aligned_box::{AlignedBox, rises};
 use crate::region::Region;
 use mesh_stream::event::Point;
 
 impl Region for AlignedBox {
-    ghost inside = { λ b. in_box b.low b.high };
+    ghost inside = { box_points };
 
     fn contains(&self, at: Point) -> bool {
         rises(self.low, at) && rises(at, self.high)

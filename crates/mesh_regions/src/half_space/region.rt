@@ -1,5 +1,6 @@
 ghost use Rattle.std.specs.Prelude.{◌≡◌, true, pos, negsuc, ◌*ℤ◌, ◌≤ℤ◌};
-ghost use Rattle.mesh_regions.specs.HalfSpaces.{factor_allowed, in_half_space, sum_at};
+ghost use Rattle.mesh_regions.specs.HalfSpaces.{factor_allowed, sum_at};
+ghost use Rattle.mesh_regions.specs.Sets.{half_space_points};
 
 use crate::half_space::HalfSpace;
 use crate::region::Region;
@@ -25,7 +26,7 @@ impl HalfSpace {
 }
 
 impl Region for HalfSpace {
-    ghost inside = { λ h. in_half_space h.a h.b h.c h.d };
+    ghost inside = { half_space_points };
 
     fn contains(&self, at: Point) -> bool {
         self.sum_at(at) <= i64::from(self.d)

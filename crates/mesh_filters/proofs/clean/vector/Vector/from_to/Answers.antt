@@ -1,4 +1,4 @@
-use Rattle.mesh_filters.proofs.Passing.{coordinates, both_passed, distance_passed}
+use Rattle.mesh_filters.proofs.Bits.{coordinates, both_passed, distance_passed}
 use Rattle.mesh_filters.proofs.clean.vector.Vector.from_to.Goals as goal
 
 pub distance-requires : goal.distance-requires

@@ -1,5 +1,5 @@
 use Rattle.std.proofs.Common.{◌≡◌, Bool, true, ◌&&◌, true≢false, sym, ◌∙◌}
-use Rattle.mesh_filters.proofs.Passing.{products_passed}
+use Rattle.mesh_filters.proofs.Bits.{products_passed}
 use Rattle.mesh_filters.proofs.clean.vector.Vector.is_parallel_to.Goals as goal
 use Rattle.mesh_filters.proofs.clean.vector.Vector.is_parallel_to.Goals.{then-same_products, else-same_products}
 
