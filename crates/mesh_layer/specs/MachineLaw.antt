@@ -38,7 +38,8 @@ module _ {M I O : Type 0} (w : Machine M I O) (p : Patient w) where
 
   pub machine_filters : (os : List O) (m : M) → Filtering (runs_on w os m)
   machine_filters os m = record {
-    begins = λ xs zs s r. ((run_begins xs zs s r m).0, ap (λ (z : List O). os ++ z) (run_begins xs zs s r m).1 ∙ sym (append_assoc os (run w m xs s).items (run_begins xs zs s r m).0));
+    begins = λ xs zs s r.
+        (let (ys, e) = run_begins xs zs s r m in (ys, ap (λ (z : List O). os ++ z) e ∙ sym (append_assoc os (run w m xs s).items ys)));
     waits = λ o. run_waits o.items o.stands m;
     stops = λ xs zs s r h n. ap (prepends os) (run_stops xs zs s r m h n);
   }

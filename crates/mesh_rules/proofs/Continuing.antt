@@ -10,7 +10,8 @@ use Rattle.mesh_stream.specs.Events.{introduced, point}
 use Rattle.mesh_stream.specs.Meaning.{Begins}
 use Rattle.mesh_rules.specs.Degenerate.{degenerate}
 use Rattle.mesh_rules.specs.Rewriting.{is_sound, cleaned, names_kept, clipped}
-use Rattle.mesh_rules.proofs.Naming.{Known, filter_agree_on, point_stays}
+use Rattle.mesh_judge.proofs.Knowing.{point_stays}
+use Rattle.mesh_rules.proofs.Naming.{Known, filter_agree_on}
 
 module _ (xs ys : List Event) (known : All (Known (introduced xs)) xs) where
   filtered_begins : (p q : Event → Bool) → ((e : Event) → Known (introduced xs) e → p e ≡ q e) → Begins (filter p xs) (filter q (xs ++ ys))

@@ -1,12 +1,12 @@
 -- Every number that an accepted list names is one that it introduces, so what goes by its vertices alone is settled by it.
-use Rattle.std.proofs.Common.{◌≡◌, ℕ, Bool, true, false, cond, ◌||◌, eqb, List, [], ◌∷◌, ◌++◌, map, filter, refl, ap, ◌∙◌, subst, append_assoc}
+use Rattle.std.proofs.Common.{◌≡◌, ℕ, Bool, true, cond, List, [], ◌∷◌, ◌++◌, map, filter, refl, ap, ◌∙◌, subst, append_assoc}
 use Rattle.std.specs.List.{AllByRecursion as All}
 use Rattle.mesh_stream.specs.declared.event.Event.{Event}
 use Rattle.mesh_stream.specs.declared.event.Event.TheVariants.{Vertex, Triangle, Finalization}
 use Rattle.mesh_stream.specs.Lists.{has}
-use Rattle.mesh_stream.specs.Events.{introduced, point}
+use Rattle.mesh_stream.specs.Events.{introduced}
 use Rattle.mesh_stream.specs.Live.{is_live}
-use Rattle.mesh_stream.proofs.Having.{has_left, has_self, not_has_nil}
+use Rattle.mesh_stream.proofs.Having.{has_left, has_self}
 use Rattle.mesh_stream.proofs.Views.{introduced-++}
 use Rattle.mesh_judge.proofs.Living.{live_introduced}
 use Rattle.mesh_rules.proofs.Having.{has_right}
@@ -47,15 +47,3 @@ module _ {X : Type 0} (P : X → Type 0) where
   pub map_agree_on : {Y : Type 0} (f g : X → Y) → ((x : X) → P x → f x ≡ g x) → (xs : List X) → All P xs → map f xs ≡ map g xs
   map_agree_on f g h [] k = refl
   map_agree_on {Y} f g h (x ∷ xs) (a, k) = ap (λ (z : Y). z ∷ map f xs) (h x a) ∙ ap (λ (z : List Y). g x ∷ z) (map_agree_on f g h xs k)
-
--- A point is looked up where it is found first.
-pub point_stays : (xs ys : List Event) (n : ℕ) → has n (introduced xs) ≡ true → point (xs ++ ys) n ≡ point xs n
-point_stays [] ys n h = absurd (not_has_nil n h)
-point_stays (Vertex l m v ∷ xs) ys n h = at (eqb n m) h (point_stays xs ys n)
-  where
-    at : (b : Bool) → (b || has n (introduced xs)) ≡ true → (has n (introduced xs) ≡ true → point (xs ++ ys) n ≡ point xs n)
-        → cond b v (point (xs ++ ys) n) ≡ cond b v (point xs n)
-    at true k ih = refl
-    at false k ih = ih k
-point_stays (Triangle l a b c ∷ xs) ys n h = point_stays xs ys n h
-point_stays (Finalization l i ∷ xs) ys n h = point_stays xs ys n h
