@@ -1,5 +1,6 @@
 -- What a judge's calls do: j is the judge before the call, k after it.
 use Rattle.std.specs.Prelude.{◌≡◌, ℕ, ◌+◌, ◌<◌, ◌≤◌, Bool, true, false, ◌&&◌, List, [], ◌∷◌, ◌++◌, is_some, Some, None, Ok, Err, Option, Result}
+use Rattle.std.specs.Result.{result_err}
 use Rattle.mesh_stream.specs.declared.event.Event.{Event}
 use Rattle.mesh_stream.specs.declared.event.Event.TheVariants.{Vertex, Triangle, Finalization}
 use Rattle.mesh_stream.specs.declared.fault.Cause.{Cause}
@@ -75,11 +76,19 @@ abbrev pub CornersFound : {T : Type 0} → Window T → ℕ → ℕ → ℕ → 
 CornersFound w a b c (Ok s) = (w.at a ≡ Some s.a) × (w.at b ≡ Some s.b) × (w.at c ≡ Some s.c)
 CornersFound w a b c (Err q) = ((is_some (w.at a) && is_some (w.at b) && is_some (w.at c)) ≡ false) × (q ≡ CornerNotLive)
 
+abbrev pub CountChecked : {T : Type 0} → Window T → Result (Unit {0}) Cause → Type 0
+CountChecked w (Ok _) = w.triangles < 100000000
+CountChecked w (Err q) = (100000000 ≤ w.triangles) × (q ≡ TooManyTriangles)
+
 abbrev pub TriangleCounted : {T : Type 0} → Window T → Result (Unit {0}) Cause → Window T → Type 0
 TriangleCounted w (Ok _) u = (w.triangles < 100000000) × (u ≡ counted w)
 TriangleCounted w (Err q) u = (100000000 ≤ w.triangles) × (q ≡ TooManyTriangles) × (u ≡ w)
 
 -- A triangle and a finalization are judged alike at every place.
+pub record Checked {T : Type 0} (j : Judge T) (a b c : ℕ) (r : Result (Unit {0}) Cause) : Type 0 where
+  pub by_window : (p : ℕ) → refuses (live_limit j) (window_of j) (Triangle p a b c) ≡ result_err r
+  pub by_list : (p : ℕ) (es : List Event) → KnowsList j es → refusal (live_limit j) es (Triangle p a b c) ≡ result_err r
+
 abbrev pub Counted : {T : Type 0} → Judge T → ℕ → ℕ → ℕ → Result (Corners T) Cause → Judge T → Type 0
 Counted j a b c (Ok s) k = ((p : ℕ) → Accepts j (Triangle p a b c) (counted (window_of j)) k) × Cornered (window_of j) a b c s
 Counted j a b c (Err q) k = (p : ℕ) → Rejects j (Triangle p a b c) q k

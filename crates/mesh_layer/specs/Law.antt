@@ -12,16 +12,41 @@ use Rattle.mesh_stream.specs.Runs.{View, Call, feeds, closes, asks, Step, Run, t
 use Rattle.mesh_judge.specs.Accepting.{refusal, accepted}
 use Rattle.mesh_rules.specs.Piling.{Rule, through, pile, lowest_stands}
 
--- A stage that gives, for every text and mark, what a pile of these layers, from the lowest up, makes of what a bottom that means G gives.
-abbrev pub Piled : ℕ → List Rule → Meaning Event → View Event → Type 0
-Piled limit rules G v = (t : List ℕ) (m : Mark) → v.means t m ≡ pile limit rules (G t m)
+-- A stage that gives, for every text and mark, what F makes of what a bottom that means G gives.
+abbrev pub MakesOf : {I : Type 0} → (Outcome Event → Outcome I) → Meaning Event → View I → Type 0
+MakesOf F G v = (t : List ℕ) (m : Mark) → v.means t m ≡ F (G t m)
 
 -- Next gives this item from here; or it gives none, and answers how the stage stands.
-abbrev pub Gives : View Event → Event → Type 0
-Gives w e = (u : View Event) × Step w (asks (Ok e)) u
+abbrev pub Gives : {I : Type 0} → View I → I → Type 0
+Gives w i = (u : View _) × Step w (asks (Ok i)) u
 
-abbrev pub Idles : View Event → Standing → Type 0
-Idles w s = (u : View Event) × Step w (asks (Err s)) u
+abbrev pub Idles : {I : Type 0} → View I → Standing → Type 0
+Idles w s = (u : View _) × Step w (asks (Err s)) u
+
+-- On a stage that gives what F makes of what a bottom that means G gives, the calls cs led to w. The whole-mesh list is that of the
+-- bytes taken, at the present mark.
+module _ {I : Type 0} (F : Outcome Event → Outcome I) (G : Meaning Event) (cs : List (Call I)) (w : View I) where
+  abbrev pub whole : Outcome I
+  whole = F (G (taken cs) (mark_of w.port))
+
+  pub record Follows : Type 0 where
+    -- What was handed over begins the whole-mesh list of the bytes taken,
+    pub begins : Begins (handed cs) whole.items
+    -- and, before closing, that of every text that goes on from them, with either mark.
+    pub begins_any : w.port ≢ shut → (u : List ℕ) (m : Mark) → Begins (handed cs) (F (G (taken cs ++ u) m)).items
+    -- Next gives no item exactly when that list is used up, and then answers how it stands.
+    pub used_up : (s : Standing) → Idles w s → (handed cs ≡ whole.items) × (s ≡ whole.stands)
+    pub not_used_up : (i : I) → Gives w i → handed cs ≢ whole.items
+    -- A stage alike, of whatever type, that took the same text in whatever pieces, both open or both closed: if next gives neither an
+    -- item, they handed over the same and stand the same.
+    pub alike : (H : Meaning Event) (v x : View I) (ds : List (Call I)) (s r : Standing)
+        → Same G H → MakesOf F H v → Run v ds x
+        → taken ds ≡ taken cs → mark_of x.port ≡ mark_of w.port → Idles w s → Idles x r
+        → (handed ds ≡ handed cs) × (r ≡ s)
+
+-- A pile of these layers, from the lowest up, over a bottom that means G.
+abbrev pub Piled : ℕ → List Rule → Meaning Event → View Event → Type 0
+Piled limit rules G v = MakesOf (pile limit rules) G v
 
 -- whether some next among the calls answered ended
 abbrev pub is_end : Standing → Bool
@@ -52,27 +77,13 @@ module _ (limit : ℕ) (lower : List Rule) (top : Rule) (G : Meaning Event) wher
 
   -- The calls cs led to w.
   module _ (cs : List (Call Event)) (w : View Event) where
-    -- the outcome of the bytes taken, at the present mark: the bottom's, and by the whole mesh the pile's
+    -- what the bottom gives for the bytes taken, at the present mark
     abbrev pub bottom_outcome : Outcome Event
     bottom_outcome = G (taken cs) (mark_of w.port)
 
-    abbrev pub whole_mesh : Outcome Event
-    whole_mesh = pile limit layers bottom_outcome
-
     pub record LawKept : Type 0 where
-      -- What was handed over begins the whole-mesh list of the bytes taken,
-      pub begins : Begins (handed cs) whole_mesh.items
-      -- and, before closing, that of every text that goes on from them, with either mark.
-      pub begins_any : w.port ≢ shut → (u : List ℕ) (m : Mark) → Begins (handed cs) (pile limit layers (G (taken cs ++ u) m)).items
-      -- Next gives no item exactly when that list is used up, and then answers how it stands.
-      pub used_up : (s : Standing) → Idles w s → (handed cs ≡ whole_mesh.items) × (s ≡ whole_mesh.stands)
-      pub not_used_up : (e : Event) → Gives w e → handed cs ≢ whole_mesh.items
-      -- A pile alike, of whatever type, that took the same text in whatever pieces, both open or both closed: if next gives neither an
-      -- item, they handed over the same and stand the same.
-      pub alike : (H : Meaning Event) (v x : View Event) (ds : List (Call Event)) (s r : Standing)
-          → Same G H → Piled limit layers H v → Run v ds x
-          → taken ds ≡ taken cs → mark_of x.port ≡ mark_of w.port → Idles w s → Idles x r
-          → (handed ds ≡ handed cs) × (r ≡ s)
+      -- What was handed over follows what the layers make of the bottom's list.
+      pub follows : Follows (pile limit layers) G cs w
       -- No triangle handed over names a vertex before its introduction or after its finalization.
       pub well_formed : WellFormed (handed cs)
       -- Once next has answered ended, each vertex handed over has exactly one finalization handed over.

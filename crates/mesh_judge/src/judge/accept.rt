@@ -3,7 +3,7 @@ ghost use Rattle.std.specs.Result.{result_err};
 ghost use Rattle.mesh_stream.specs.Ranges.{in_space, vertex_number};
 ghost use Rattle.mesh_stream.specs.declared.event.Event.TheVariants.{Vertex};
 ghost use Rattle.mesh_judge.specs.Windows.{refuses, end_by};
-ghost use Rattle.mesh_judge.specs.Judging.{window_of, live_limit, Entered, CornerFound, CornersFound, TriangleCounted, Counted, TakenOut, Left, Renoted, Stands};
+ghost use Rattle.mesh_judge.specs.Judging.{window_of, live_limit, Entered, CornerFound, CornersFound, CountChecked, Checked, TriangleCounted, Counted, TakenOut, Left, Renoted, Stands};
 
 use super::Judge;
 use crate::live::{Corners, Live};
@@ -91,13 +91,29 @@ impl<T: Copy> Judge<T> {
         })
     }
 
-    // Counts one triangle more, if there may be one.
-    fn count_triangle(&mut self) -> Result<(), Cause>
-        ensures { TriangleCounted (window_of self.old) result (window_of self.new) × (live_limit self.new ≡ live_limit self.old) }
+    // Whether there may be one triangle more.
+    fn check_count(&self) -> Result<(), Cause>
+        ensures { CountChecked (window_of self.now) result }
     {
         if self.triangles >= TRIANGLES {
             return Err(Cause::TooManyTriangles);
         }
+        Ok(())
+    }
+
+    // Whether a triangle is accepted, or why not. It is not counted.
+    pub fn check_triangle(&self, a: u32, b: u32, c: u32) -> Result<(), Cause>
+        ensures { Checked self.now a b c result }
+    {
+        self.corners(a, b, c)?;
+        self.check_count()
+    }
+
+    // Counts one triangle more, if there may be one.
+    fn count_triangle(&mut self) -> Result<(), Cause>
+        ensures { TriangleCounted (window_of self.old) result (window_of self.new) × (live_limit self.new ≡ live_limit self.old) }
+    {
+        self.check_count()?;
         self.triangles += 1;
         Ok(())
     }

@@ -1,4 +1,4 @@
-ghost use Rattle.std.specs.Prelude.{◌≡◌, ℕ, None};
+ghost use Rattle.std.specs.Prelude.{◌≡◌, ℕ};
 ghost use Rattle.mesh_stream.specs.declared.event.Event.{Event as MeshEvent};
 ghost use Rattle.mesh_stream.specs.Meaning.{Outcome};
 ghost use Rattle.mesh_rules.specs.Piling.{Rule, through};
@@ -11,9 +11,9 @@ use mesh_stream::event::Event;
 use mesh_stream::stage::Stage;
 
 impl<S: Stage, F: Filter<In = S::Item>> Layer<S, F> {
-    // A layer with nothing to hand over yet.
-    fn start(below: S, filter: F) -> Layer<S, F>
-        ensures { result ≡ record { below = below; filter = filter; rest = F.Filter.empty; fault = None } }
+    // Puts a filter on a stage, with nothing to hand over yet.
+    pub fn new(below: S, filter: F) -> Layer<S, F>
+        ensures { Made (F.Filter.rewrites filter F.Filter.empty) (seen S.Stage below) (seen ⟦<Layer<S, F> as Stage>⟧ result) }
     {
         let rest = filter.no_rest();
         Layer {
@@ -33,6 +33,6 @@ impl<S: Stage<Item = Event>, F: Filter<In = Event, Out = Event>> Layer<S, F> {
             → ((o : Outcome MeshEvent) → F.Filter.rewrites filter F.Filter.empty o ≡ through limit rule o)
             → PutOn limit rule (seen S.Stage below) (seen ⟦<Layer<S, F> as Stage>⟧ result) }
     {
-        Layer::start(below, filter)
+        Layer::new(below, filter)
     }
 }
