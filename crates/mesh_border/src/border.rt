@@ -1,0 +1,36 @@
+ghost use Rattle.std.specs.Prelude.{◌≡◌, length};
+ghost use Rattle.mesh_border.specs.Keeping.{Kept};
+
+use crate::found::Found;
+use crate::neighbours::Neighbours;
+use crate::open_edges::OpenEdges;
+use mesh_judge::judge::Judge;
+
+mod filter;
+mod judged;
+mod start;
+
+// How many vertices may be live at once.
+const LIVE_LIMIT: usize = 1024;
+
+// The filter of the border list: it hands over, at the finalization of a vertex, the single ones of the edges open there.
+#[derive(Drop)]
+pub struct Border {
+    // of each live vertex, its row among the neighbours
+    judge: Judge<u16>,
+    edges: OpenEdges,
+    neighbours: Neighbours,
+    // the vertices that may be the other ends of open edges, while a finalization is worked in
+    ends: [u32; LIVE_LIMIT],
+    // what the last finalization gave
+    found: Found,
+    ghost kept: { Kept judge edges neighbours },
+    ghost long: { length ends ≡ 1024 },
+}
+
+// What is to be handed over for the event taken last.
+#[derive(Clone, Copy, PartialEq, Debug)]
+pub enum Rest {
+    Nothing,
+    Found,
+}

@@ -1,0 +1,27 @@
+ghost use Rattle.std.specs.Prelude.{◌≡◌, ℕ};
+ghost use Rattle.mesh_stream.specs.declared.event.Event.{Event as EventOf};
+ghost use Rattle.mesh_stream.specs.Meaning.{Outcome};
+ghost use Rattle.mesh_edges.specs.Bordering.{bordered};
+ghost use Rattle.mesh_border.specs.declared.border.Rest.TheVariants.{Nothing};
+
+use crate::border::{Border, LIVE_LIMIT};
+use crate::found::Found;
+use crate::neighbours::Neighbours;
+use crate::open_edges::OpenEdges;
+use mesh_judge::judge::Judge;
+use mesh_layer::filter::Filter;
+
+impl Border {
+    // A border list before the first event.
+    pub fn new() -> Border
+        ensures { (o : Outcome EventOf) → ⟦<Border as Filter>⟧.rewrites result Nothing o ≡ bordered 1024 4096 o }
+    {
+        Border {
+            judge: Judge::new(),
+            edges: OpenEdges::new(),
+            neighbours: Neighbours::new(),
+            ends: [0; LIVE_LIMIT],
+            found: Found::new(),
+        }
+    }
+}

@@ -1,0 +1,8 @@
+// The border list: a layer whose items are border edges.
+#![tactic(auto)]
+
+pub mod border;
+pub mod border_list;
+mod found;
+mod neighbours;
+mod open_edges;

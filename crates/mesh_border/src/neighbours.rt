@@ -1,0 +1,24 @@
+ghost use Rattle.std.specs.Prelude.{◌≡◌, ◌≤◌, length};
+ghost use Rattle.mesh_border.specs.Rows.{FreeRows};
+
+mod joining;
+mod rows;
+
+// As many rows as vertices may be live at once, and the words of 64 bits that make a row.
+const ROWS: usize = 1024;
+
+const WORDS: usize = 16;
+
+// Which live vertices were joined by an edge: a matrix of bits. Each live vertex has a row, and the column of the same number. A bit may
+// stay where the column has gone to another vertex since; so a row says which vertices may be joined with its own, and no other is.
+#[derive(Drop)]
+pub(crate) struct Neighbours {
+    bits: [[u64; WORDS]; ROWS],
+    // the vertex of each row, where it has one
+    vertices: [Option<u32>; ROWS],
+    // the free rows: the first `free_count` of these
+    free: [u16; ROWS],
+    free_count: usize,
+    ghost long: { (length bits ≡ 1024) × (length vertices ≡ 1024) × (length free ≡ 1024) },
+    ghost free_rows: { FreeRows vertices free free_count },
+}
