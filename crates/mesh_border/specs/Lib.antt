@@ -1,4 +1,5 @@
 -- The rows of live vertices, and which of them were joined.
+pub mod FreeRows
 pub mod Rows
 -- The open edges, found by their keys.
 pub mod OpenEdges

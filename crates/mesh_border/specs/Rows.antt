@@ -1,5 +1,5 @@
 -- The rows of live vertices, and which of them were joined.
-use Rattle.std.specs.Prelude.{◌≡◌, ◌≢◌, ℕ, suc, zero, ◌+◌, ◌/◌, ◌%◌, ◌<◌, ◌≤◌, Bool, true, false, ◌&&◌, ◌||◌, List, [], take, Some, None, Option, ◌==◌, slice_index_or}
+use Rattle.std.specs.Prelude.{◌≡◌, ◌≢◌, ℕ, suc, zero, ◌+◌, ◌/◌, ◌%◌, ◌<◌, Bool, true, false, ◌&&◌, ◌||◌, List, [], take, Some, None, Option, ◌==◌, slice_index_or}
 use Rattle.std.specs.Int.{bit_at}
 use Rattle.mesh_stream.specs.Lists.{has}
 use Rattle.mesh_judge.specs.Windows.{put}
@@ -24,13 +24,6 @@ next_row n = last_of n.free n.free_count
 -- bit c of row r
 abbrev pub near : Neighbours → ℕ → ℕ → Bool
 near n r c = bit_at (slice_index_or (slice_index_or n.bits r []) (c / 64) 0) (c % 64) == 1
-
--- The free rows have no vertex, and none of them is listed twice.
-pub record FreeRows (vertices : List (Option ℕ)) (free : List ℕ) (count : ℕ) : Type 0 where
-  pub few : count ≤ 1024
-  pub inside : (k : ℕ) → k < count → slice_index_or free k 0 < 1024
-  pub bare : (k : ℕ) → k < count → slice_index_or vertices (slice_index_or free k 0) None ≡ None
-  pub distinct : (j k : ℕ) → j < k → k < count → slice_index_or free j 0 ≢ slice_index_or free k 0
 
 -- A vertex has the next row, which was free, and is joined with no other.
 pub record Entered (old : Neighbours) (v : ℕ) (new : Neighbours) : Type 0 where

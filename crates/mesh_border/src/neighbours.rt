@@ -1,5 +1,5 @@
 ghost use Rattle.std.specs.Prelude.{◌≡◌, ◌≤◌, length};
-ghost use Rattle.mesh_border.specs.Rows.{FreeRows};
+ghost use Rattle.mesh_border.specs.FreeRows.{FreeRows};
 
 mod joining;
 mod rows;

@@ -1,6 +1,6 @@
 // The bits of the rows.
-ghost use Rattle.std.specs.Prelude.{◌≡◌, ℕ, ◌+◌, ◌*◌, ◌<◌, ◌≤◌, length, drop};
-ghost use Rattle.mesh_border.specs.Rows.{Joined, Listed};
+ghost use Rattle.std.specs.Prelude.{◌≡◌, ◌<◌, ◌≤◌, length};
+ghost use Rattle.mesh_border.specs.Rows.{BitSet, Joined, Listed};
 
 use crate::neighbours::{Neighbours, ROWS, WORDS};
 
@@ -8,7 +8,7 @@ impl Neighbours {
     // Sets one bit.
     fn set(&mut self, row: u16, column: u16)
         requires { (row < 1024) × (column < 1024) }
-        ensures { Rattle.mesh_border.specs.Rows.BitSet self.old row column self.new }
+        ensures { BitSet self.old row column self.new }
     {
         let column = usize::from(column);
         self.bits[usize::from(row)][column / 64] |= 1 << (column % 64);

@@ -1,12 +1,13 @@
 // Rows, and the vertices that have them.
-ghost use Rattle.std.specs.Prelude.{◌≡◌, ℕ, ◌+◌, ◌<◌, true, is_some, None};
-ghost use Rattle.mesh_border.specs.Rows.{vertex_of, free_rows, next_row, joined, Entered, LeftRow};
+ghost use Rattle.std.specs.Prelude.{◌≡◌, ℕ, ◌<◌, true, length, is_some, None, slice_index_or};
+ghost use Rattle.mesh_border.specs.Rows.{vertex_of, free_rows, next_row, Entered, LeftRow};
 
 use crate::neighbours::{Neighbours, ROWS, WORDS};
 
 // All rows, each free.
 fn all_rows() -> [u16; ROWS]
-    ensures { (Rattle.std.specs.Prelude.length result ≡ 1024) × ((k : ℕ) → k < 1024 → Rattle.std.specs.Prelude.slice_index_or result k 0 ≡ k) }
+    ensures long { length result ≡ 1024 }
+    ensures rows { (k : ℕ) → k < 1024 → slice_index_or result k 0 ≡ k }
 {
     let mut rows = [0; ROWS];
     for row in 0..1024u16 {

@@ -1,5 +1,5 @@
 ghost use Rattle.std.specs.Prelude.{◌≡◌, [], length, ◌≤◌};
-ghost use Rattle.std.specs.List.{IsNonDecreasing};
+ghost use Rattle.std.specs.List.Sorted.{IsNonDecreasing};
 ghost use Rattle.mesh_edge_windows.specs.Edges.{open_at, singles, close_at};
 ghost use Rattle.mesh_border.specs.OpenEdges.{edges_of, most_of, TakenOut, Among};
 

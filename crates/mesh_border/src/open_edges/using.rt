@@ -1,8 +1,7 @@
-ghost use Rattle.std.specs.Prelude.{◌≡◌, ℕ, true, nat_le};
-ghost use Rattle.mesh_edges.specs.Bordering.{uses_of};
+ghost use Rattle.std.specs.Prelude.{◌≡◌, ℕ, ◌+◌, ◌≤◌, true};
+ghost use Rattle.mesh_edges.specs.Bordering.{all_different, uses_of};
 ghost use Rattle.mesh_edge_windows.specs.Edges.{no_edges, use_all, use_edge, newly};
 ghost use Rattle.mesh_border.specs.OpenEdges.{edges_of, most_of, fits};
-ghost use Rattle.std.specs.Prelude.{◌+◌, ◌≤◌};
 
 use super::{OPEN_LIMIT, OpenEdges};
 use mesh_edge_windows::open_edge::OpenEdge;
@@ -12,7 +11,7 @@ use mesh_table::table::Table;
 
 // Whether the corners are three different vertices, so that the triangle uses edges.
 fn all_different(a: u32, b: u32, c: u32) -> bool
-    ensures { result ≡ Rattle.mesh_edges.specs.Bordering.all_different a b c }
+    ensures { result ≡ all_different a b c }
 {
     a != b && b != c && c != a
 }
