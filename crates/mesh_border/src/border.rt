@@ -1,5 +1,7 @@
 ghost use Rattle.std.specs.Prelude.{◌≡◌, length};
+ghost use Rattle.mesh_judge.specs.Judging.{live_limit, window_of};
 ghost use Rattle.mesh_border.specs.Keeping.{Kept};
+ghost use Rattle.mesh_border.specs.OpenEdges.{edges_of};
 
 use crate::found::Found;
 use crate::neighbours::Neighbours;
@@ -24,7 +26,7 @@ pub struct Border {
     ends: [u32; LIVE_LIMIT],
     // what the last finalization gave
     found: Found,
-    ghost kept: { Kept judge edges neighbours },
+    ghost kept: { Kept (live_limit judge) (window_of judge) (edges_of edges) neighbours },
     ghost long: { length ends ≡ 1024 },
 }
 
