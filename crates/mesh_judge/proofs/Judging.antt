@@ -1,7 +1,7 @@
 -- From what the table's calls promise to what the judge's calls do.
 use Rattle.std.proofs.Common.{◌≡◌, ℕ, ◌+◌, ◌-◌, ◌<◌, ◌≤◌, Bool, true, false, cond, ◌&&◌, eqb, ltb, leb, ◌⊎◌, List, [], ◌∷◌, ◌++◌, is_some, Some, None, Ok, Err, Option, Result, sym, refl, ap, ◌∙◌, subst, inl, inr, arith, rules}
 use Rattle.std.specs.Option.{ok_or}
-use Rattle.std.specs.Result.{IsOk}
+use Rattle.std.specs.Result.{IsOk, result_err}
 use Rattle.std.proofs.lemmas.Option.{none-some, same_Some}
 use Rattle.std.proofs.lemmas.Bool.{eqb-true, eqb-false, and_parts, and_from, both_ways, leb-true, le-leb, ltb-true, lt-ltb, le-ltb}
 use Rattle.mesh_stream.specs.declared.event.Point.{Point}
@@ -27,7 +27,7 @@ use Rattle.mesh_judge.specs.declared.judge.Judge.{Judge}
 use Rattle.mesh_judge.specs.Accepting.{unless, refusal}
 use Rattle.mesh_judge.specs.Windows.{Window, fresh, put, refuses, enters, counted, leaves, renoted, renotes, first, end_by, ending, Knows}
 use Rattle.mesh_judge.specs.Records.{sound_record, Stray}
-use Rattle.mesh_judge.specs.Judging.{window_of, live_limit, KnowsList, Begun, Accepts, Rejects, KeptAt, Cornered, CornersFound, TakenOut, Left, Renoted, Stands}
+use Rattle.mesh_judge.specs.Judging.{window_of, live_limit, KnowsList, Begun, Accepts, Rejects, KeptAt, Cornered, CornersFound, CountChecked, Checked, TakenOut, Left, Renoted, Stands}
 use Rattle.mesh_judge.proofs.Refusing.{unless_none}
 use Rattle.mesh_judge.proofs.Knowing.{first_none, first_some, refuses_is, ending_is, knows_none, knows_vertex, knows_triangle, knows_final, knows_renoted}
 
@@ -194,6 +194,22 @@ module _ {T : Type 0} (limit : ℕ) (w : Window T) (p a b c : ℕ) where
 
     pub refuses_no_triangle : w.triangles < 100000000 → refuses limit w (Triangle p a b c) ≡ None
     refuses_no_triangle l = all_there ∙ ap (λ z. unless z TooManyTriangles None) (lt-ltb w.triangles 100000000 l)
+
+-- A triangle that is checked, and not counted.
+module _ {T : Type 0} (j : Judge T) (a b c : ℕ) where
+  checked : (r : Result (Unit {0}) Cause) → ((p : ℕ) → refuses (live_limit j) (window_of j) (Triangle p a b c) ≡ result_err r) → Checked j a b c r
+  checked r h = record {
+    by_window = h;
+    by_list = λ p es kn. sym (refuses_is (live_limit j) (window_of j) es kn (Triangle p a b c)) ∙ h p;
+  }
+
+  pub corners_checked : (q : Cause) → CornersFound (window_of j) a b c (Err q) → Checked j a b c (Err q)
+  corners_checked q (e, f) = checked (Err q) (λ p. refuses_corner (live_limit j) (window_of j) p a b c e ∙ ap (λ (x : Cause). Some x) (sym f))
+
+  pub count_checked : (s : Corners T) (r : Result (Unit {0}) Cause) → CornersFound (window_of j) a b c (Ok s) → CountChecked (window_of j) r → Checked j a b c r
+  count_checked s (Ok u) f l = checked (Ok u) (λ p. refuses_no_triangle (live_limit j) (window_of j) p a b c s f l)
+  count_checked s (Err q) f (l, e) =
+      checked (Err q) (λ p. refuses_many (live_limit j) (window_of j) p a b c s f l ∙ ap (λ (x : Cause). Some x) (sym e))
 
 pub first_gone : {A : Type 0} (x y z : Option A) → x ≡ None → (is_some x && is_some y && is_some z) ≡ false
 first_gone {A} x y z e = ap (λ (o : Option A). is_some o && is_some y && is_some z) e
