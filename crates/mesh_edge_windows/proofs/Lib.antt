@@ -3,3 +3,5 @@ mod Listing
 -- Edges by their two ends, and by their other ends at one vertex.
 mod Joining
 mod Buckets
+-- The open edges after some uses and finalizations, and what one use more and one finalization more make of them.
+mod Opening
