@@ -5,3 +5,4 @@ mod Joining
 mod Buckets
 -- The open edges after some uses and finalizations, and what one use more and one finalization more make of them.
 mod Opening
+mod Closing
