@@ -6,3 +6,6 @@ mod Buckets
 -- The open edges after some uses and finalizations, and what one use more and one finalization more make of them.
 mod Opening
 mod Closing
+-- That the machine gives the border list of the whole mesh.
+mod Using
+mod Bordering
