@@ -1,5 +1,5 @@
 -- The machine of the border list gives the border list of the whole mesh.
-use Rattle.std.proofs.Common.{◌≡◌, ℕ, ◌<◌, ◌≤◌, Bool, true, false, cond, not, eqb, leb, List, [], ◌∷◌, ◌++◌, length, Some, None, filter, Option, sym, refl, ap, ◌∙◌, subst, append_assoc, append-nil, arith}
+use Rattle.std.proofs.Common.{◌≡◌, ℕ, ◌<◌, ◌≤◌, Bool, true, false, cond, not, leb, List, [], ◌∷◌, ◌++◌, Some, None, filter, Option, sym, refl, ap, ◌∙◌, subst, append_assoc, append-nil, arith}
 use Rattle.std.specs.List.{AllByRecursion as All}
 use Rattle.std.specs.Option.{option_or}
 use Rattle.std.proofs.lemmas.Bool.{and_from}
@@ -29,7 +29,7 @@ use Rattle.mesh_rules.proofs.Numbering.{loosely}
 use Rattle.mesh_rules.proofs.Naming.{all_known}
 use Rattle.mesh_rules.proofs.Beginnings.{accepted_ok, accepted_parts}
 use Rattle.mesh_edges.specs.declared.edge.Edge.{Edge}
-use Rattle.mesh_edges.specs.Bordering.{edge, all_different, uses_of, uses, same_edge, is_open, gives, gives_in, ends_at, border_at, border_after, edge_refusal, border_rules, bordered}
+use Rattle.mesh_edges.specs.Bordering.{edge, all_different, uses_of, uses, same_edge, is_open, gives, gives_in, ends_at, border_after, edge_refusal, border_rules}
 use Rattle.mesh_edge_windows.specs.Edges.{Edges, number_bound, use_all, close_at}
 use Rattle.mesh_edge_windows.specs.Windowing.{Memory, blank, edges_refuse, memory_refuses, moves_on, hands, verdict, bordering}
 use Rattle.mesh_edge_windows.specs.WholeMesh.{WholeMesh}
@@ -177,12 +177,14 @@ module _ (limit most : ℕ) (s : Standing) (all : List Event) (ok : Accepted (re
 
       at : (o : Option Cause) → rules es e ≡ o
           → (Remembers limit (moves_on m e) more → all ≡ more ++ rest → run (bordering limit most) (moves_on m e) xs s ≡ still more xs)
-          → step_by o ≡ outcome (border_after all es (accept o e rest)) (stands_by Border (stop o e (stop_after rules more xs)) (es ++ (e ∷ xs)) s)
+          → step_by o
+          ≡ outcome (border_after all es (accept o e rest)) (stands_by Border (stop o e (stop_after rules more xs)) (es ++ (e ∷ xs)) s)
       at None t ih =
           let q : refusal limit es e ≡ None = none_of (refusal limit es e) (edge_refusal most es e) t in
           let whole : all ≡ es ++ (e ∷ rest) = h ∙ ap (λ (o : Option Cause). es ++ accept o e rest) t in
           ap (prepends (hands m e)) (ih (goes_on limit most m es r e q) (whole ∙ sym (append_assoc es (e ∷ []) rest)))
-          ∙ (λ i. outcome (handed limit most m es r all ok e rest whole i) (stands_by Border (stop_after rules more xs) (append_assoc es (e ∷ []) xs i) s))
+          ∙ (λ i. outcome (handed limit most m es r all ok e rest whole i)
+          (stands_by Border (stop_after rules more xs) (append_assoc es (e ∷ []) xs i) s))
       at (Some c) t ih = refl
 
 pub whole_mesh : WholeMesh

@@ -1,5 +1,5 @@
 -- The open edges at a vertex, by rising number of the other end; and what its finalization makes of the open edges.
-use Rattle.std.proofs.Common.{◌≡◌, ℕ, zero, suc, ◌+◌, ◌-◌, ◌<◌, ◌≤◌, Bool, true, false, cond, not, ◌&&◌, ◌||◌, eqb, ◌⊎◌, List, [], ◌∷◌, ◌++◌, length, Some, None, filter, Option, flat_map, option_to_list, sym, refl, ap, ◌∙◌, inl, inr, append-nil, arith}
+use Rattle.std.proofs.Common.{◌≡◌, ℕ, ◌+◌, ◌-◌, ◌<◌, ◌≤◌, Bool, true, false, cond, not, ◌&&◌, ◌||◌, eqb, List, [], ◌∷◌, ◌++◌, length, Some, None, filter, Option, flat_map, option_to_list, sym, refl, ap, ◌∙◌, append-nil, arith}
 use Rattle.std.specs.List.{range_with_len, AllByRecursion as All}
 use Rattle.std.proofs.lemmas.Bool.{and_right, and_parts}
 use Rattle.std.proofs.lemmas.List.Elements.{filter_agree}
@@ -11,10 +11,10 @@ use Rattle.mesh_judge.proofs.Living.{has_pushed}
 use Rattle.mesh_edges.specs.declared.edge.Edge.{Edge}
 use Rattle.mesh_edges.specs.Bordering.{same_edge, first_uses, is_open, gives, ends_at, other_end, rising}
 use Rattle.mesh_edge_windows.specs.declared.open_edge.OpenEdge.{OpenEdge}
-use Rattle.mesh_edge_windows.specs.declared.open_edge.Uses.TheVariants.{Once, More}
+use Rattle.mesh_edge_windows.specs.declared.open_edge.Uses.TheVariants.{More}
 use Rattle.mesh_edge_windows.specs.Uses.{used_by, single}
 use Rattle.mesh_edge_windows.specs.Edges.{joins, number_bound, open_at, singles, close_at}
-use Rattle.mesh_edge_windows.proofs.Listing.{and_true, iff, kept_twice, kept_none, kept_inside, kept_if, flat_map_agree, flat_map_twice, flat_map_lengths}
+use Rattle.mesh_edge_windows.proofs.Listing.{and_true, kept_twice, kept_none, kept_inside, kept_if, flat_map_agree, flat_map_twice, flat_map_lengths}
 use Rattle.mesh_edge_windows.proofs.Buckets.{rising_is, rising_length}
 use Rattle.mesh_edge_windows.proofs.Joining.{same_swap, joined_same, joins_is}
 use Rattle.mesh_edge_windows.proofs.Opening.{kept_of, both_live, edge_in, open_in, edges_in, edges_same, live_joined}
@@ -170,7 +170,8 @@ module _ (us : List Edge) (gone : List ℕ) (i : ℕ) (P : Edge → Type 0) (in_
     gives_at : (j : ℕ) → flat_map given (first_at j) ≡ singles (option_to_list (edge_in us gone i j))
     gives_at j = at (both_live gone i j)
       where
-        whole : (es : List Edge) → es ≡ filter (joins i j) us → All P es → All (λ e. joins i j e ≡ true) es → flat_map given (first_only es) ≡ gives es
+        whole : (es : List Edge) → es ≡ filter (joins i j) us → All P es → All (λ e. joins i j e ≡ true) es
+            → flat_map given (first_only es) ≡ gives es
         whole [] q a b = refl
         whole (e ∷ es) q a b =
             append-nil (given e) ∙ known e a.0 (and_parts (ends_at i e) (eqb (other_end i e) j) (sym (joins_is i j e) ∙ b.0)).0

@@ -1,7 +1,7 @@
 -- An edge by its two ends.
 use Rattle.std.proofs.Common.{◌≡◌, ℕ, Bool, true, false, cond, ◌&&◌, ◌||◌, eqb, ◌⊎◌, sym, refl, ap, ◌∙◌, inl, inr, arith}
 use Rattle.std.proofs.lemmas.Bool.Decides.{nat_tests}
-use Rattle.std.proofs.lemmas.Bool.{eqb-true, eq-eqb, and_parts, or_cases}
+use Rattle.std.proofs.lemmas.Bool.{eqb-true, and_parts, or_cases}
 use Rattle.mesh_edges.specs.declared.edge.Edge.{Edge}
 use Rattle.mesh_edges.specs.Bordering.{same_edge, ends_at, other_end}
 use Rattle.mesh_edge_windows.specs.Edges.{joins}
@@ -27,10 +27,11 @@ joins_swap a b e =
     ∙ ap (λ x. x || (eqb a e.from && eqb b e.to)) (and_swap (eqb a e.to) (eqb b e.from))
     ∙ ap (λ x. (eqb b e.from && eqb a e.to) || x) (and_swap (eqb a e.from) (eqb b e.to))
 
-abbrev Ends : ℕ → ℕ → Edge → Type 0
+-- they are its ends, in either order
+abbrev pub Ends : ℕ → ℕ → Edge → Type 0
 Ends a b e = ((a ≡ e.from) × (b ≡ e.to)) ⊎ ((a ≡ e.to) × (b ≡ e.from))
 
-pub joins_cases : (a b : ℕ) (e : Edge) → joins a b e ≡ true → ((a ≡ e.from) × (b ≡ e.to)) ⊎ ((a ≡ e.to) × (b ≡ e.from))
+pub joins_cases : (a b : ℕ) (e : Edge) → joins a b e ≡ true → Ends a b e
 joins_cases a b e h = elim (or_cases _ _ h) [
   | inl k ↦ (let p = and_parts (eqb a e.from) (eqb b e.to) k in inl (eqb-true _ _ p.0, eqb-true _ _ p.1))
   | inr k ↦ (let p = and_parts (eqb a e.to) (eqb b e.from) k in inr (eqb-true _ _ p.0, eqb-true _ _ p.1))

@@ -8,11 +8,6 @@ pub and_true : (x : Bool) → (x && true) ≡ x
 and_true true = refl
 and_true false = refl
 
-pub iff : (x y : Bool) → (x ≡ true → y ≡ true) → (y ≡ true → x ≡ true) → x ≡ y
-iff true y f g = sym (f refl)
-iff false true f g = g refl
-iff false false f g = refl
-
 implied : (q p : Bool) → (p ≡ true → q ≡ true) → (q && p) ≡ p
 implied q true h = ap (λ z. z && true) (h refl)
 implied q false h = and_right q false refl

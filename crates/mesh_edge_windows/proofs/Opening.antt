@@ -1,5 +1,5 @@
 -- The open edges after some uses and finalizations, by their ends and counted; and what one use more makes of them.
-use Rattle.std.proofs.Common.{◌≡◌, ℕ, ◌+◌, Bool, true, false, cond, not, ◌&&◌, ◌⊎◌, List, [], ◌∷◌, ◌++◌, length, is_some, Some, None, filter, Option, sym, refl, ap, ◌∙◌, inl, inr, append_assoc, append-nil, arith, length-append}
+use Rattle.std.proofs.Common.{◌≡◌, ℕ, ◌+◌, Bool, true, false, cond, not, ◌&&◌, List, [], ◌∷◌, ◌++◌, length, is_some, Some, None, filter, Option, sym, refl, ap, ◌∙◌, inl, inr, append_assoc, append-nil, length-append}
 use Rattle.std.specs.List.{AllByRecursion as All}
 use Rattle.std.proofs.lemmas.List.Elements.{filter-append}
 use Rattle.mesh_stream.specs.Lists.{has}
@@ -9,7 +9,7 @@ use Rattle.mesh_edges.specs.Bordering.{same_edge, first_uses, is_open}
 use Rattle.mesh_edge_windows.specs.declared.open_edge.OpenEdge.{OpenEdge}
 use Rattle.mesh_edge_windows.specs.Uses.{used_by}
 use Rattle.mesh_edge_windows.specs.Edges.{Edges, joins, newly, use_edge, use_all}
-use Rattle.mesh_edge_windows.proofs.Joining.{and_swap, joins_cases, joined_same, same_swap}
+use Rattle.mesh_edge_windows.proofs.Joining.{and_swap, Ends, joins_cases, same_swap}
 
 -- What is kept of an edge after these uses of it.
 abbrev pub kept_of : Option OpenEdge → List Edge → Option OpenEdge
@@ -46,7 +46,7 @@ kept_some (x ∷ xs) u = kept_some xs (used_by (Some u) x)
 pub live_joined : (gone : List ℕ) (a b : ℕ) (e : Edge) → joins a b e ≡ true → is_open gone e ≡ both_live gone a b
 live_joined gone a b e h = at (joins_cases a b e h)
   where
-    at : ((a ≡ e.from) × (b ≡ e.to)) ⊎ ((a ≡ e.to) × (b ≡ e.from)) → is_open gone e ≡ both_live gone a b
+    at : Ends a b e → is_open gone e ≡ both_live gone a b
     at (inl p) = ap (λ m. both_live gone m e.to) (sym p.0) ∙ ap (λ m. both_live gone a m) (sym p.1)
     at (inr p) =
         and_swap (not (has e.from gone)) (not (has e.to gone)) ∙ ap (λ m. both_live gone m e.from) (sym p.0)
@@ -79,8 +79,8 @@ first_uses_push (x ∷ us) e = at (same_edge x e) refl (first_uses_push us e)
         → x ∷ filter other (first_uses (us ++ (e ∷ []))) ≡ x ∷ (filter other (first_uses us) ++ cond (used_in (x ∷ us) e) [] (e ∷ []))
     at true h ih =
         let there : used_in (x ∷ us) e ≡ true =
-            ap (λ (z : List Edge). is_some (kept_of None z)) (kept_yes (same_edge e) x us (same_swap e x ∙ h))
-            ∙ kept_some (filter (same_edge e) us) (used_by None x) in
+        ap (λ (z : List Edge). is_some (kept_of None z)) (kept_yes (same_edge e) x us (same_swap e x ∙ h))
+        ∙ kept_some (filter (same_edge e) us) (used_by None x) in
         ap (λ (z : List Edge). x ∷ z)
         (split ih ∙ ap (λ (z : List Edge). filter other (first_uses us) ++ z)
         (left (used_in us e) (ap not h) ∙ sym (ap (λ t. cond t [] (e ∷ [])) there)))

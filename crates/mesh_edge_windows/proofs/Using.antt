@@ -61,10 +61,12 @@ module _ (i : ℕ) (e : Edge) (at_i : ends_at i e ≡ true) where
       at : (eqb e.from i ≡ true) ⊎ (eqb e.to i ≡ true) → same_edge e (edge p a b) ≡ false
       at (inl k) =
           let q = eqb-true e.from i k in
-          or_from _ _ (and_left (eqb e.from a) (eqb e.to b) (differs e.from a q x)) (and_left (eqb e.from b) (eqb e.to a) (differs e.from b q y))
+          or_from _ _ (and_left (eqb e.from a) (eqb e.to b) (differs e.from a q x))
+          (and_left (eqb e.from b) (eqb e.to a) (differs e.from b q y))
       at (inr k) =
           let q = eqb-true e.to i k in
-          or_from _ _ (and_right (eqb e.from a) (eqb e.to b) (differs e.to b q y)) (and_right (eqb e.from b) (eqb e.to a) (differs e.to a q x))
+          or_from _ _ (and_right (eqb e.from a) (eqb e.to b) (differs e.to b q y))
+          (and_right (eqb e.from b) (eqb e.to a) (differs e.to a q x))
 
   not_used : (es : List Event) → has i (named es) ≡ false → filter (same_edge e) (uses es) ≡ []
   not_used [] h = refl
