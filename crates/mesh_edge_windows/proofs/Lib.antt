@@ -8,4 +8,4 @@ mod Opening
 mod Closing
 -- That the machine gives the border list of the whole mesh.
 mod Using
-mod Bordering
+pub mod Bordering
