@@ -1,1 +1,4 @@
-pub mod BorderLaw
+-- The rows of the neighbours.
+mod Rows
+-- The law on runs.
+mod BorderLaw

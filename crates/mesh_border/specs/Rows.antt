@@ -1,5 +1,5 @@
 -- The rows of live vertices, and which of them were joined.
-use Rattle.std.specs.Prelude.{◌≡◌, ◌≢◌, ℕ, suc, zero, ◌+◌, ◌/◌, ◌%◌, ◌<◌, Bool, true, false, ◌&&◌, ◌||◌, List, [], take, Some, None, Option, ◌==◌, slice_index_or}
+use Rattle.std.specs.Prelude.{◌≡◌, ◌≢◌, ℕ, suc, zero, ◌+◌, ◌*◌, ◌/◌, ◌%◌, ◌<◌, Bool, true, false, ◌&&◌, ◌||◌, List, [], take, Some, None, Option, ◌==◌, slice_index_or}
 use Rattle.std.specs.Int.{bit_at}
 use Rattle.mesh_stream.specs.Lists.{has}
 use Rattle.mesh_judge.specs.Windows.{put}
@@ -57,3 +57,12 @@ pub record Joined (old : Neighbours) (a b : ℕ) (new : Neighbours) : Type 0 whe
 -- The vertices that row r says may be joined with its own are among the first `count` of these numbers.
 abbrev pub Listed : Neighbours → ℕ → List ℕ → ℕ → Type 0
 Listed n r into count = (c v : ℕ) → near n r c ≡ true → vertex_of n c ≡ Some v → has v (take count into) ≡ true
+
+-- Those of one word of a row.
+abbrev pub WordListed : Neighbours → ℕ → ℕ → List ℕ → ℕ → Type 0
+WordListed n k word into count =
+    (bit v : ℕ) → bit < 64 → bit_at word bit ≡ 1 → vertex_of n (k * 64 + bit) ≡ Some v → has v (take count into) ≡ true
+
+-- What was among the first numbers stays there.
+abbrev pub KeepsListed : List ℕ → ℕ → List ℕ → ℕ → Type 0
+KeepsListed old before new after = (v : ℕ) → has v (take before old) ≡ true → has v (take after new) ≡ true

@@ -1,4 +1,4 @@
-ghost use Rattle.std.specs.Prelude.{◌≡◌, ◌≤◌, length};
+ghost use Rattle.std.specs.Prelude.{◌≡◌, ℕ, ◌<◌, List, [], length, slice_index_or};
 ghost use Rattle.mesh_border.specs.FreeRows.{FreeRows};
 
 mod joining;
@@ -20,5 +20,6 @@ pub(crate) struct Neighbours {
     free: [u16; ROWS],
     free_count: usize,
     ghost long: { (length bits ≡ 1024) × (length vertices ≡ 1024) × (length free ≡ 1024) },
+    ghost wide: { (r : ℕ) → r < 1024 → length (slice_index_or bits r []) ≡ 16 },
     ghost free_rows: { FreeRows vertices free free_count },
 }

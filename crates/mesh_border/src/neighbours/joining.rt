@@ -1,6 +1,6 @@
 // The bits of the rows.
-ghost use Rattle.std.specs.Prelude.{◌≡◌, ◌<◌, ◌≤◌, length};
-ghost use Rattle.mesh_border.specs.Rows.{BitSet, Joined, Listed};
+ghost use Rattle.std.specs.Prelude.{◌≡◌, ◌+◌, ◌*◌, ◌<◌, ◌≤◌, length};
+ghost use Rattle.mesh_border.specs.Rows.{BitSet, Joined, Listed, WordListed, KeepsListed};
 
 use crate::neighbours::{Neighbours, ROWS, WORDS};
 
@@ -24,7 +24,15 @@ impl Neighbours {
     }
 
     // Lists those of one word of a row, behind the first `count` of the list.
-    fn list_word(&self, k: usize, word: u64, into: &mut [u32; ROWS], count: usize) -> usize {
+    fn list_word(&self, k: usize, word: u64, into: &mut [u32; ROWS], count: usize) -> usize
+        requires inside { k < 16 }
+        requires room { count ≤ k * 64 }
+        requires long { length into.old ≡ 1024 }
+        ensures few { result ≤ k * 64 + 64 }
+        ensures long { length into.new ≡ 1024 }
+        ensures kept { KeepsListed into.old count into.new result }
+        ensures listed { WordListed self.now k word into.new result }
+    {
         let mut count = count;
         let mut left = word;
         while left != 0 {
