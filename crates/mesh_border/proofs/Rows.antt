@@ -1,8 +1,9 @@
 -- Rows of bits, and the lists that they give.
-use Rattle.std.proofs.Common.{◌≡◌, ℕ, ◌+◌, ◌*◌, ◌/◌, ◌%◌, ◌^◌, ◌<◌, ◌≤◌, Bool, true, false, ◌&&◌, ◌||◌, eqb, List, [], ◌∷◌, Option, None, length, get_or, take, set, refl, sym, ap, ◌∙◌, inl, inr, arith, w64}
+use Rattle.std.proofs.Common.{◌≡◌, ℕ, ◌+◌, ◌*◌, ◌/◌, ◌%◌, ◌^◌, ◌<◌, ◌≤◌, Bool, true, false, ◌&&◌, ◌||◌, eqb, List, [], ◌∷◌, Option, None, length, get_or, take, set, sym, ap, ◌∙◌, inl, inr, arith, w64}
 use Rattle.std.proofs.Math.ListN.{replicate}
 use Rattle.std.proofs.lemmas.Bool.{cases_eq, cases_lt, ne_eqb, eq-eqb, or_right}
 use Rattle.std.proofs.lemmas.List.{get_or-set_same, get_or-set_other, get_or-replicate, get_or_past, length-replicate, take_more_set}
+use Rattle.std.proofs.lemmas.Grind.{get_or-set_at}
 use Rattle.std.proofs.lemmas.List.Folds.{list_any-append}
 use Rattle.std.proofs.lemmas.Nat.{and_le_l}
 use Rattle.std.proofs.lemmas.Nat.Bits.{bit_at_set_same, bit_at_set_other, bit_at_clear_same, bit_at_clear_other, bit_at-trailing_zeros}
@@ -36,10 +37,6 @@ all_wide r lt =
     let words : List ℕ = replicate 16 0 in
     ap length (get_or-replicate 1024 r words [] lt) ∙ length-replicate {A = ℕ} 16 0
 
--- A bit of a matrix whose rows are words of 64 bits.
-abbrev pub bit_in : List (List ℕ) → ℕ → ℕ → Bool
-bit_in rows r c = eqb (bit_at (get_or (get_or rows r []) (c / 64) 0) (c % 64)) 1
-
 -- A bit stays where it is not the one that was set, and is set there.
 stays : (new old here : Bool) → here ≡ false → new ≡ old → new ≡ (old || here)
 stays new true here h e = e
@@ -49,58 +46,55 @@ is_set : (new old here : Bool) → here ≡ true → new ≡ true → new ≡ (o
 is_set new true here h e = e
 is_set new false here h e = e ∙ sym h
 
-other_row : (a b : Bool) → a ≡ false → (a && b) ≡ false
-other_row a b e = ap (λ x. x && b) e
+-- a bit of a row, whose words have 64 bits, and the row with a bit set
+abbrev pub bit_of : List ℕ → ℕ → Bool
+bit_of words c = eqb (bit_at (get_or words (c / 64) 0) (c % 64)) 1
 
-other_column : (a b : Bool) → b ≡ false → (a && b) ≡ false
-other_column true b e = e
-other_column false b e = refl
+abbrev pub with_bit : List ℕ → ℕ → List ℕ
+with_bit words column = set words (column / 64) (bit_or (get_or words (column / 64) 0) (1 * 2 ^ (column % 64) % 2 ^ 64))
 
-both : (a b : Bool) → a ≡ true → b ≡ true → (a && b) ≡ true
-both a b x y = ap (λ z. z && b) x ∙ y
+module _ (words : List ℕ) (column : ℕ) (inside : column / 64 < length words) where
+  abbrev new_word : ℕ
+  new_word = bit_or (get_or words (column / 64) 0) (1 * 2 ^ (column % 64) % 2 ^ 64)
 
-module _ (rows : List (List ℕ)) (row column : ℕ) where
-  abbrev pub row_with : List ℕ
-  row_with =
-      let words = get_or rows row [] in
-      set words (column / 64) (bit_or (get_or words (column / 64) 0) (1 * 2 ^ (column % 64) % 2 ^ 64))
+  set_bit : bit_of (with_bit words column) column ≡ true
+  set_bit =
+      ap (λ w. eqb (bit_at w (column % 64)) 1) (get_or-set_same words (column / 64) new_word 0 inside)
+      ∙ ap (λ b. eqb b 1) (bit_at_set_same w64 (get_or words (column / 64) 0) (column % 64) (omega arith))
 
-  -- One bit is set in a word of a row, and the row is written back.
-  pub bit_set : row < length rows → column / 64 < length (get_or rows row []) → (r c : ℕ)
-      → bit_in (set rows row row_with) r c ≡ (bit_in rows r c || (eqb r row && eqb c column))
-  bit_set in_rows in_words r c =
-      let words : List ℕ = get_or rows row [] in
-      let word : ℕ = get_or words (column / 64) 0 in
-      elim (cases_eq r row) [
-        | inr ne ↦
-            stays _ _ _ (other_row _ _ (ne_eqb r row ne))
-            (ap (λ (ws : List ℕ). eqb (bit_at (get_or ws (c / 64) 0) (c % 64)) 1) (get_or-set_other rows row r row_with [] ne))
-        | inl at_row ↦
-            let new : ℕ = bit_or word (1 * 2 ^ (column % 64) % 2 ^ 64) in
-            let row_is : get_or (set rows row row_with) r [] ≡ row_with =
-            ap (λ n. get_or (set rows row row_with) n []) at_row ∙ get_or-set_same rows row row_with [] in_rows in
-            let in_row : get_or (get_or (set rows row row_with) r []) (c / 64) 0 ≡ get_or row_with (c / 64) 0 =
-            ap (λ ws. get_or ws (c / 64) 0) row_is in
-            let old_word : get_or (get_or rows r []) (c / 64) 0 ≡ get_or words (c / 64) 0 = ap (λ n. get_or (get_or rows n []) (c / 64) 0) at_row in
-            let tests : ℕ → Bool = λ w. eqb (bit_at w (c % 64)) 1 in
-            elim (cases_eq (c / 64) (column / 64)) [
-              | inr ne ↦
-                  stays _ _ _ (other_column _ _ (ne_eqb c column (λ e. ne (ap (λ n. n / 64) e))))
-                  (ap tests (in_row ∙ get_or-set_other words (column / 64) (c / 64) new 0 ne ∙ sym old_word))
-              | inl at_word ↦
-                  let word_is : get_or (get_or (set rows row row_with) r []) (c / 64) 0 ≡ new =
-                  in_row ∙ ap (λ n. get_or row_with n 0) at_word ∙ get_or-set_same words (column / 64) new 0 in_words in
-                  let was : get_or (get_or rows r []) (c / 64) 0 ≡ word = old_word ∙ ap (λ n. get_or words n 0) at_word in
-                  elim (cases_eq (c % 64) (column % 64)) [
-                    | inr ne ↦
-                        stays _ _ _ (other_column _ _ (ne_eqb c column (λ e. ne (ap (λ n. n % 64) e))))
-                        (ap tests word_is ∙ ap (λ b. eqb b 1) (bit_at_set_other w64 word (column % 64) (omega arith) (c % 64) ne) ∙ sym (ap tests was))
-                    | inl at_bit ↦
-                        is_set _ _ _ (both _ _ (eq-eqb r row at_row) (eq-eqb c column (omega arith)))
-                        (ap tests word_is ∙ ap (λ n. eqb (bit_at new n) 1) at_bit ∙ ap (λ b. eqb b 1) (bit_at_set_same w64 word (column % 64) (omega arith)))
-                  ]
-            ]
+  other_bit : (c : ℕ) → (c ≡ column → ⊥) → bit_of (with_bit words column) c ≡ bit_of words c
+  other_bit c ne =
+      elim (cases_eq (c / 64) (column / 64)) [
+        | inr apart ↦ ap (λ w. eqb (bit_at w (c % 64)) 1) (get_or-set_other words (column / 64) (c / 64) new_word 0 apart)
+        | inl same ↦
+            ap (λ w. eqb (bit_at w (c % 64)) 1) (get_or-set_at words (column / 64) (c / 64) new_word 0 same inside)
+            ∙ ap (λ b. eqb b 1) (bit_at_set_other w64 (get_or words (column / 64) 0) (column % 64) (omega arith) (c % 64) (omega arith))
+            ∙ ap (λ n. eqb (bit_at (get_or words n 0) (c % 64)) 1) (sym same)
       ]
+
+  row_bits : (c : ℕ) → bit_of (with_bit words column) c ≡ (bit_of words c || eqb c column)
+  row_bits c =
+      elim (cases_eq c column) [
+        | inl here ↦ is_set _ _ _ (eq-eqb c column here) (ap (bit_of (with_bit words column)) here ∙ set_bit)
+        | inr ne ↦ stays _ _ _ (ne_eqb c column ne) (other_bit c ne)
+      ]
+
+-- The row with the bit is written back among the rows.
+pub all_bits : (rows : List (List ℕ)) (row column : ℕ) → row < length rows → column / 64 < length (get_or rows row []) → (r c : ℕ)
+    → bit_of (get_or (set rows row (with_bit (get_or rows row []) column)) r []) c
+    ≡ (bit_of (get_or rows r []) c || (eqb r row && eqb c column))
+all_bits rows row column in_rows in_row r c =
+    let words : List ℕ = get_or rows row [] in
+    elim (cases_eq r row) [
+      | inl here ↦
+          ap (λ (ws : List ℕ). bit_of ws c) (get_or-set_at rows row r (with_bit words column) [] here in_rows)
+          ∙ row_bits words column in_row c
+          ∙ ap (λ n. bit_of (get_or rows n []) c || eqb c column) (sym here)
+          ∙ ap (λ b. bit_of (get_or rows r []) c || (b && eqb c column)) (sym (eq-eqb r row here))
+      | inr ne ↦
+          stays _ _ _ (ap (λ b. b && eqb c column) (ne_eqb r row ne))
+          (ap (λ (ws : List ℕ). bit_of ws c) (get_or-set_other rows row r (with_bit words column) [] ne))
+    ]
 
 -- An entry is put behind the first `count` of a list, where there is room.
 module _ (list : List ℕ) (count entry : ℕ) (room : count < length list) where
@@ -135,7 +129,9 @@ lowest_taken left some fits =
       was = lowest.1;
       less =
           elim (cases_eq next left) [
-            | inl same ↦ absurd (let e : bit_at next bit ≡ bit_at left bit = ap (λ w. bit_at w bit) same in omega (arith, e, lowest.1, gone))
+            | inl same ↦
+                let e : bit_at next bit ≡ bit_at left bit = ap (λ w. bit_at w bit) same in
+                absurd (omega (arith, lowest.1))
             | inr ne ↦ omega (arith, and_le_l left (bit_not w64 (1 * 2 ^ bit % 2 ^ 64)))
           ];
       others = rest;
@@ -147,6 +143,7 @@ lowest_taken left some fits =
     }
 
 -- Where the bits of the entries so far are taken, there are no more entries than the place of a bit that is left.
-pub few_before : (first count left bit : ℕ) → bit_at left bit ≡ 1 → ((i : ℕ) → first + i < count → bit_at left i ≡ 0) → count ≤ first + bit
+pub few_before : (first count left bit : ℕ) → bit_at left bit ≡ 1 → ((i : ℕ) → first + i < count → bit_at left i ≡ 0)
+    → count ≤ first + bit
 few_before first count left bit here taken =
     elim (cases_lt (first + bit) count) [ inl lt ↦ absurd (omega (arith, taken bit lt, here)) | inr le ↦ le ]

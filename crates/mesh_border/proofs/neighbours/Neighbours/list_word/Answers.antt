@@ -9,7 +9,7 @@ use Rattle.mesh_border.proofs.neighbours.Neighbours.list_word.Goals as goal
 pub bounds-into-count : goal.bounds-into-count
 bounds-into-count c =
     let low = lowest_taken c.loop-left.left (omega arith) (search rules) in
-    let few = few_before (c.args.k * 64) c.loop-left.count c.loop-left.left (trailing_zeros w64 c.loop-left.left) low.was c.loop-left.invariant.taken in
+    let few = few_before (c.args.k * 64) c.loop-left.count c.loop-left.left _ low.was c.loop-left.invariant.taken in
     omega (arith, low.inside)
 
 pub loop-left-smaller-in-Some : goal.loop-left-smaller-in-Some
@@ -23,7 +23,8 @@ loop-left-preserved-in-Some c =
     let inv = c.loop-left.invariant in
     let lowest : ℕ = trailing_zeros w64 c.loop-left.left in
     let low = lowest_taken c.loop-left.left (omega arith) (search rules) in
-    let few : c.loop-left.count ≤ c.args.k * 64 + lowest = few_before (c.args.k * 64) c.loop-left.count c.loop-left.left lowest low.was inv.taken in
+    let few : c.loop-left.count ≤ c.args.k * 64 + lowest =
+    few_before (c.args.k * 64) c.loop-left.count c.loop-left.left lowest low.was inv.taken in
     let room : c.loop-left.count < length c.loop-left.into = omega (arith, low.inside) in
     let before = listed_before c.loop-left.into c.loop-left.count c.in-Some.vertex room in
     record {
@@ -45,7 +46,8 @@ loop-left-preserved c =
     let inv = c.loop-left.invariant in
     let lowest : ℕ = trailing_zeros w64 c.loop-left.left in
     let low = lowest_taken c.loop-left.left (omega arith) (search rules) in
-    let few : c.loop-left.count ≤ c.args.k * 64 + lowest = few_before (c.args.k * 64) c.loop-left.count c.loop-left.left lowest low.was inv.taken in
+    let few : c.loop-left.count ≤ c.args.k * 64 + lowest =
+    few_before (c.args.k * 64) c.loop-left.count c.loop-left.left lowest low.was inv.taken in
     record {
       long = inv.long;
       few = inv.few;
