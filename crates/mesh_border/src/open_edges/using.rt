@@ -55,6 +55,7 @@ impl OpenEdges {
     }
 
     // Uses an edge, for which there has to be room.
+    #[tactic(auto, using(crate::proofs::Edging::changed_edge, crate::proofs::Edging::inserted_edge))]
     fn use_edge(&mut self, edge: Edge)
         requires { (edges_of self.old).count + newly (edges_of self.old) edge.from edge.to ≤ most_of self.old }
         ensures used { edges_of self.new ≡ use_edge (edges_of self.old) edge }
@@ -70,6 +71,7 @@ impl OpenEdges {
     }
 
     // Uses the edges of a triangle, for which there has to be room.
+    #[tactic(auto, using(crate::proofs::Edging::second_fits, crate::proofs::Edging::third_fits))]
     pub(crate) fn use_triangle(&mut self, place: u32, a: u32, b: u32, c: u32)
         requires { fits self.old place a b c ≡ true }
         ensures used { edges_of self.new ≡ use_all (edges_of self.old) (uses_of place a b c) }
