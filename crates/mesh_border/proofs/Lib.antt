@@ -3,5 +3,9 @@ mod Rows
 -- The open edges in their table.
 mod Edging
 mod Closing
+-- The filter of the border list.
+mod Plain
+mod Keeping
+mod Making
 -- The law on runs.
 mod BorderLaw

@@ -1,7 +1,10 @@
 -- What the filter of the border list makes of all that may still come from below, and how it works one event in.
-use Rattle.std.specs.Prelude.{◌≡◌, ℕ, List, [], Some, None, Ok, Err, Result}
+use Rattle.std.specs.Prelude.{◌≡◌, List, [], Some, None, Ok, Err, Result}
 use Rattle.mesh_stream.specs.declared.event.Event.{Event}
 use Rattle.mesh_stream.specs.declared.fault.Cause.{Cause}
+use Rattle.mesh_stream.specs.declared.fault.Fault.{Fault}
+use Rattle.mesh_stream.specs.declared.fault.LayerName.TheVariants.{Border as BorderName}
+use Rattle.mesh_stream.specs.Events.{place_of}
 use Rattle.mesh_stream.specs.Meaning.{Outcome}
 use Rattle.mesh_judge.specs.Judging.{window_of, live_limit}
 use Rattle.mesh_layer.specs.Filtering.{Filtering}
@@ -29,7 +32,8 @@ makes b rest = runs_on (bordering (live_limit b.judge) (most_of b.edges)) (owed 
 
 pub makes_filters : (b : Border) (rest : Rest) → Filtering (makes b rest)
 makes_filters b rest =
-    machine_filters (bordering (live_limit b.judge) (most_of b.edges)) (bordering_patient (live_limit b.judge) (most_of b.edges)) (owed b rest) (memory_of b)
+    machine_filters (bordering (live_limit b.judge) (most_of b.edges)) (bordering_patient (live_limit b.judge) (most_of b.edges))
+    (owed b rest) (memory_of b)
 
 pub record SameLimits (old new : Border) : Type 0 where
   pub live : live_limit new.judge ≡ live_limit old.judge
@@ -52,3 +56,8 @@ pub record Refuses (old : Border) (e : Event) (c : Cause) (new : Border) : Type 
 abbrev pub Worked : Border → Event → Result Rest Cause → Border → Type 0
 Worked old e (Ok rest) new = Accepts old e rest new
 Worked old e (Err c) new = Refuses old e c new
+
+-- What is to be handed over for an event that is judged so, or the fault of the border list that refuses it.
+abbrev pub or_fault : Result Rest Cause → Event → Result Rest Fault
+or_fault (Ok rest) e = Ok rest
+or_fault (Err c) e = Err (record { layer = BorderName; cause = c; place = place_of e })
