@@ -15,6 +15,7 @@ use Rattle.mesh_judge.specs.Accepting.{unless}
 use Rattle.mesh_judge.specs.Windows.{Window, refuses}
 use Rattle.mesh_judge.specs.Judging.{window_of, live_limit, Stands}
 use Rattle.mesh_judge.proofs.Refusing.{unless_none}
+use Rattle.mesh_layer.specs.Faults.{or_fault}
 use Rattle.mesh_layer.specs.Filtering.{Takes, StandsSo}
 use Rattle.mesh_layer.specs.Machine.{Machine, run, after, runs_on}
 use Rattle.mesh_edges.specs.declared.edge.Edge.{Edge}
@@ -24,7 +25,7 @@ use Rattle.mesh_border.specs.declared.border.Rest.{Rest}
 use Rattle.mesh_border.specs.declared.border.Rest.TheVariants.{Nothing, Found}
 use Rattle.mesh_border.specs.OpenEdges.{edges_of, most_of, fits}
 use Rattle.mesh_border.specs.Keeping.{plain}
-use Rattle.mesh_border.specs.Making.{memory_of, makes, Refuses, Worked, or_fault}
+use Rattle.mesh_border.specs.Making.{memory_of, makes, Refuses, Worked}
 use Rattle.mesh_border.proofs.Plain.{plain_refuses, plain_ending}
 
 -- What an accepted vertex says of the window.
@@ -86,7 +87,7 @@ module _ (old : Border) where
   by_verdict e v h o = ap (λ (u : Option Cause). goes_by e u o) h
 
   pub takes : (e : Event) (new : Border) (r : Result Rest Cause) → Worked old e r new
-      → Takes Nothing (makes old) e (or_fault r e) (makes new)
+      → Takes Nothing (makes old) e (or_fault r Bordering e) (makes new)
   takes e new (Ok rest) h =
       λ o. by_verdict e None h.accepted o
       ∙ (λ i. runs_on (bordering (sym h.limits.live i) (sym h.limits.edges i)) (sym h.handed i) (sym h.memory i) o)

@@ -2,9 +2,6 @@
 use Rattle.std.specs.Prelude.{◌≡◌, List, [], Some, None, Ok, Err, Result}
 use Rattle.mesh_stream.specs.declared.event.Event.{Event}
 use Rattle.mesh_stream.specs.declared.fault.Cause.{Cause}
-use Rattle.mesh_stream.specs.declared.fault.Fault.{Fault}
-use Rattle.mesh_stream.specs.declared.fault.LayerName.TheVariants.{Border as BorderName}
-use Rattle.mesh_stream.specs.Events.{place_of}
 use Rattle.mesh_stream.specs.Meaning.{Outcome}
 use Rattle.mesh_judge.specs.Judging.{window_of, live_limit}
 use Rattle.mesh_layer.specs.Filtering.{Filtering}
@@ -56,8 +53,3 @@ pub record Refuses (old : Border) (e : Event) (c : Cause) (new : Border) : Type 
 abbrev pub Worked : Border → Event → Result Rest Cause → Border → Type 0
 Worked old e (Ok rest) new = Accepts old e rest new
 Worked old e (Err c) new = Refuses old e c new
-
--- What is to be handed over for an event that is judged so, or the fault of the border list that refuses it.
-abbrev pub or_fault : Result Rest Cause → Event → Result Rest Fault
-or_fault (Ok rest) e = Ok rest
-or_fault (Err c) e = Err (record { layer = BorderName; cause = c; place = place_of e })

@@ -2,9 +2,7 @@
 use Rattle.std.specs.Prelude.{◌≡◌, ℕ, List, [], ◌∷◌, Some, None, Option, Ok, Err, Result}
 use Rattle.mesh_stream.specs.declared.event.Event.{Event}
 use Rattle.mesh_stream.specs.declared.fault.Cause.{Cause}
-use Rattle.mesh_stream.specs.declared.fault.Fault.{Fault}
 use Rattle.mesh_stream.specs.declared.fault.LayerName.{LayerName}
-use Rattle.mesh_stream.specs.Events.{place_of}
 use Rattle.mesh_stream.specs.Meaning.{Outcome}
 use Rattle.mesh_judge.specs.declared.judge.Judge.{Judge}
 use Rattle.mesh_judge.specs.Windows.{refuses}
@@ -31,11 +29,6 @@ pub means_filters : {T : Type 0} (layer : LayerName) (work : Work T) (j : Judge 
     → Filtering (means layer work j given owed)
 means_filters layer work j given owed =
     machine_filters (machine (live_limit j) layer work) (machine_patient (live_limit j) layer work) owed (memory_by j given)
-
--- What is made of an event that is judged so, or the fault of the layer that refuses it.
-abbrev pub or_fault : {H : Type 0} → Result H Cause → LayerName → Event → Result H Fault
-or_fault (Ok h) layer e = Ok h
-or_fault (Err c) layer e = Err (record { layer = layer; cause = c; place = place_of e })
 
 -- A filter works one event in: j is its judge before and k after, and it gave so many new numbers.
 module _ {T : Type 0} (work : Work T) (j : Judge T) (given : ℕ) (e : Event) where

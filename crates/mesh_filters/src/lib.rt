@@ -5,5 +5,4 @@ pub mod check;
 pub mod clean;
 pub mod clip;
 pub mod compact;
-mod fault;
 pub mod renumber;

@@ -1,5 +1,6 @@
 -- Filters, and layers of them.
 pub mod Filtering
+pub mod Faults
 pub mod LayeringLaw
 pub mod Layering
 -- Filters that are machines.

@@ -1,24 +1,14 @@
-ghost use Rattle.std.specs.Prelude.{refl, ◌≡◌};
+ghost use Rattle.std.specs.Prelude.{refl};
 ghost use Rattle.mesh_border.specs.declared.border.Rest.TheVariants.{Nothing};
-ghost use Rattle.mesh_border.specs.Making.{makes, makes_filters, or_fault};
+ghost use Rattle.mesh_border.specs.Making.{makes, makes_filters};
 
 use crate::border::{Border, Rest};
 use mesh_edges::edge::Edge;
+use mesh_layer::fault::or_fault;
 use mesh_layer::filter::Filter;
 use mesh_stream::event::Event;
-use mesh_stream::fault::{Cause, Fault, LayerName};
+use mesh_stream::fault::{Fault, LayerName};
 use mesh_stream::stage::Standing;
-
-// What is to be handed over for an event that is judged so, or the fault of the border list that refuses it.
-fn or_fault(judged: Result<Rest, Cause>, event: Event) -> Result<Rest, Fault>
-    ensures { result ≡ or_fault judged event }
-{
-    judged.map_err(|cause| Fault {
-        layer: LayerName::Border,
-        cause,
-        place: event.place(),
-    })
-}
 
 impl Filter for Border {
     type In = Event;
@@ -53,7 +43,7 @@ impl Filter for Border {
     }
 
     fn take(&mut self, item: Event) -> Result<Rest, Fault> {
-        or_fault(self.judged(item), item)
+        or_fault(self.judged(item), LayerName::Border, item)
     }
 
     fn stand(&self, below: Standing) -> Standing {

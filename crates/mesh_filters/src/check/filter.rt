@@ -4,8 +4,8 @@ ghost use Rattle.mesh_filters.specs.Handing.{events_of, Handed};
 ghost use Rattle.mesh_filters.specs.Making.{check_filters, check_makes};
 
 use crate::check::Check;
-use crate::fault::or_fault;
 use mesh_judge::live::Live;
+use mesh_layer::fault::or_fault;
 use mesh_layer::filter::Filter;
 use mesh_stream::event::Event;
 use mesh_stream::fault::{Cause, Fault, LayerName};

@@ -5,8 +5,8 @@ ghost use Rattle.mesh_filters.specs.Making.{clean_filters, clean_makes};
 
 use crate::clean::Clean;
 use crate::clean::degenerate::is_degenerate;
-use crate::fault::or_fault;
 use mesh_judge::live::{Corners, Live};
+use mesh_layer::fault::or_fault;
 use mesh_layer::filter::Filter;
 use mesh_stream::event::Event;
 use mesh_stream::fault::{Cause, Fault, LayerName};

@@ -4,8 +4,8 @@ ghost use Rattle.mesh_filters.specs.Handing.{events_of, Handed};
 ghost use Rattle.mesh_filters.specs.Making.{clip_filters, clip_makes};
 
 use crate::clip::Clip;
-use crate::fault::or_fault;
 use mesh_judge::live::{Corners, Live};
+use mesh_layer::fault::or_fault;
 use mesh_layer::filter::Filter;
 use mesh_regions::region::Region;
 use mesh_stream::event::Event;

@@ -7,8 +7,8 @@ ghost use Rattle.mesh_filters.specs.Compacting.{nothing, listed};
 
 use crate::compact::Compact;
 use crate::compact::brought::Brought;
-use crate::fault::or_fault;
 use mesh_judge::live::Live;
+use mesh_layer::fault::or_fault;
 use mesh_layer::filter::Filter;
 use mesh_stream::event::{Event, Point};
 use mesh_stream::fault::{Cause, Fault, LayerName};

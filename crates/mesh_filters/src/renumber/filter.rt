@@ -3,9 +3,9 @@ ghost use Rattle.mesh_windows.specs.Working.{renumber_work};
 ghost use Rattle.mesh_filters.specs.Handing.{events_of, Handed};
 ghost use Rattle.mesh_filters.specs.Making.{renumber_filters, renumber_makes};
 
-use crate::fault::or_fault;
 use crate::renumber::Renumber;
 use mesh_judge::live::{Corners, Live};
+use mesh_layer::fault::or_fault;
 use mesh_layer::filter::Filter;
 use mesh_stream::event::Event;
 use mesh_stream::fault::{Cause, Fault, LayerName};
