@@ -132,7 +132,7 @@ module _ (limit : ℕ) (w : Window ℕ) (n : Neighbours) (p a b : ℕ) (x y : Li
         rw (eqb-true i b s.0, eqb-true j a s.1) (from_near n (w.at b) (w.at a) y x second first back)
   ]
 
-  pub kept_used : (t : Edges) → Kept limit w t n → Kept limit w (use_edge t (edge p a b)) n
+  kept_used : (t : Edges) → Kept limit w t n → Kept limit w (use_edge t (edge p a b)) n
   kept_used t kept = record {
     limit_is = kept.limit_is;
     rows = kept.rows;

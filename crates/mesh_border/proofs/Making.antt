@@ -1,5 +1,5 @@
 -- From what the filter does with an event to the machine.
-use Rattle.std.proofs.Common.{◌≡◌, ℕ, ◌<◌, Bool, true, false, [], Some, None, Option, Ok, Err, Result, sym, ap, ◌∙◌, subst}
+use Rattle.std.proofs.Common.{◌≡◌, ℕ, ◌<◌, Bool, [], Some, None, Option, Ok, Err, Result, sym, ap, ◌∙◌, subst}
 use Rattle.std.proofs.lemmas.Bool.{ltb-true}
 use Rattle.std.specs.Option.{option_or}
 use Rattle.std.specs.Result.{IsErrAnd}
@@ -46,7 +46,7 @@ module _ (b : Border) (e : Event) where
       ap (λ (q : Option Cause). option_or q (edges_refuse (most_of b.edges) (edges_of b.edges) e))
       (plain_refuses (window_of b.judge) (live_limit b.judge) e ∙ h)
 
-  pub judge_refuses : (c : Cause) → refuses (live_limit b.judge) (window_of b.judge) e ≡ Some c → refused_for (Some c)
+  judge_refuses : (c : Cause) → refuses (live_limit b.judge) (window_of b.judge) e ≡ Some c → refused_for (Some c)
   judge_refuses c h = judge_says (Some c) h
 
   pub judge_passes : refuses (live_limit b.judge) (window_of b.judge) e ≡ None

@@ -1,7 +1,7 @@
 use Rattle.std.proofs.Common.{true, false, refl, ◌∙◌}
 use Rattle.mesh_stream.specs.declared.event.Event.TheVariants.{Triangle}
 use Rattle.mesh_judge.specs.Judging.{window_of, live_limit}
-use Rattle.mesh_border.specs.OpenEdges.{edges_of, most_of}
+use Rattle.mesh_border.specs.OpenEdges.{edges_of}
 use Rattle.mesh_border.specs.Keeping.{plain}
 use Rattle.mesh_border.proofs.Keeping.{kept_by, kept_counted}
 use Rattle.mesh_border.proofs.Making.{judge_passes, edges_say, judge_refused, not_worked}
