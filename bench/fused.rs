@@ -1,12 +1,9 @@
 // The job of the program `report` (read, check, clean, compact and report), written by hand as one loop without layers. It is the bar
 // for the library's speed. Nothing is proved of it. Built with `rustc -O --edition 2021`.
 
-mod mesh_text;
-mod open_table;
+include!("mesh_text.rs");
+include!("open_table.rs");
 
-use mesh_text::{take_all, Fault, Line, Mesh, Stop, HIGHEST_VERTEX};
-use open_table::{Record, Table};
-use std::io;
 
 const MOST_TRIANGLES: u32 = 100_000_000;
 const MOST_LIVE: usize = 1_024;
@@ -97,14 +94,14 @@ impl Cleaned {
 }
 
 impl Mesh for Cleaned {
-    fn judge(&mut self, place: u32, line: Line) -> Result<(), Stop> {
+    fn judge(&mut self, place: u32, line: Line) -> Result<(), Fault> {
         match line {
             Line::Vertex(at) => self.vertex(place, at),
             Line::Triangle(corners) => self.triangle(corners),
             Line::Finalization(number) => self.finalization(number),
             Line::Nothing => Ok(()),
         }
-        .map_err(|cause| Stop::Fault(Fault { layer: "check", cause, place }))
+        .map_err(|cause| Fault { layer: "check", cause, place })
     }
 
     fn lowest_live(&self) -> Option<u32> {
@@ -124,15 +121,15 @@ fn main() -> io::Result<()> {
         width: 0,
         area: 0,
     };
-    let fault = take_all(&mut mesh, &mut io::stdin().lock())?;
+    let stand = take_all(&mut mesh, &mut io::stdin().lock())?;
     println!("vertices {}", mesh.vertices);
     println!("triangles {}", mesh.triangles);
     println!("finalized {}", mesh.finalized);
     println!("width {}", mesh.width);
     println!("area {}", mesh.area);
-    match fault {
-        None => println!("end ok"),
-        Some(fault) => println!("{fault}"),
+    match stand {
+        Ok(()) => println!("end ok"),
+        Err(fault) => println!("{fault}"),
     }
     Ok(())
 }

@@ -1,14 +1,11 @@
 // The job of the program `border` (read, check and list the border), written by hand as one loop without layers. It is the bar for
 // the library's speed. Nothing is proved of it. Built with `rustc -O --edition 2021`.
 
-// The coordinates of a vertex are read and not needed.
-#[allow(dead_code)]
-mod mesh_text;
-mod open_table;
+include!("mesh_text.rs");
+include!("open_table.rs");
 
-use mesh_text::{take_all, Fault, Line, Mesh, Stop, HIGHEST_VERTEX};
-use open_table::{Record, Table};
-use std::io::{self, BufWriter, Write};
+use std::fmt::Write as _;
+use std::io::Write;
 
 const MOST_TRIANGLES: u32 = 100_000_000;
 const MOST_LIVE: usize = 1_024;
@@ -63,9 +60,8 @@ impl Vertex {
     }
 }
 
-// The live vertices in their rows, the open edges, and what was read.
-struct Border<W> {
-    out: W,
+// The live vertices in their rows, the open edges, what was read, and the lines that are still to be written.
+struct Border {
     live: Table<Numbered, { 2 * MOST_LIVE }>,
     rows: Vec<Vertex>,
     free: Vec<u16>,
@@ -73,12 +69,12 @@ struct Border<W> {
     found: Vec<Edge>,
     vertices_read: u32,
     triangles_read: u32,
+    lines: String,
 }
 
-impl<W: Write> Border<W> {
-    fn new(out: W) -> Border<W> {
+impl Border {
+    fn new() -> Border {
         Border {
-            out,
             live: Table::new(),
             rows: (0..MOST_LIVE).map(|_| Vertex::default()).collect(),
             free: (0..MOST_LIVE as u16).rev().collect(),
@@ -86,6 +82,7 @@ impl<W: Write> Border<W> {
             found: Vec::new(),
             vertices_read: 0,
             triangles_read: 0,
+            lines: String::new(),
         }
     }
 
@@ -165,41 +162,37 @@ impl<W: Write> Border<W> {
         self.rows[usize::from(row)].neighbours = neighbours;
     }
 
-    // Writes the edges that were found at a row, by rising number of the other end.
-    fn write_found(&mut self, row: u16) -> io::Result<()> {
+    // Lists the edges that were found at a row, by rising number of the other end.
+    fn list_found(&mut self, row: u16) {
         let rows = &self.rows;
         let number = |row: u16| rows[usize::from(row)].number;
         self.found.sort_unstable_by_key(|edge| number(if edge.from == row { edge.to } else { edge.from }));
         for edge in self.found.drain(..) {
-            writeln!(self.out, "e {} {} @{}", number(edge.from), number(edge.to), edge.place)?;
+            writeln!(self.lines, "e {} {} @{}", number(edge.from), number(edge.to), edge.place).expect("a string takes all");
         }
-        Ok(())
     }
 
-    fn finalization(&mut self, number: u32) -> Result<u16, u32> {
+    fn finalization(&mut self, number: u32) -> Result<(), u32> {
         let i = self.live.find(number).ok_or(11u32)?;
         let row = self.live.slots[i].row;
         self.live.remove(i);
         self.close_edges(row);
+        self.list_found(row);
         self.free.push(row);
-        Ok(row)
+        Ok(())
     }
 }
 
-impl<W: Write> Mesh for Border<W> {
-    fn judge(&mut self, place: u32, line: Line) -> Result<(), Stop> {
-        let check = |cause| Stop::Fault(Fault { layer: "check", cause, place });
-        let border = |cause| Stop::Fault(Fault { layer: "border", cause, place });
+impl Mesh for Border {
+    fn judge(&mut self, place: u32, line: Line) -> Result<(), Fault> {
+        let fault = |layer| move |cause| Fault { layer, cause, place };
         match line {
-            Line::Vertex(_) => self.vertex(place).map_err(check),
+            Line::Vertex(_) => self.vertex(place).map_err(fault("check")),
             Line::Triangle(numbers) => {
-                let corners = self.corners(numbers).map_err(check)?;
-                self.triangle(place, corners).map_err(border)
+                let corners = self.corners(numbers).map_err(fault("check"))?;
+                self.triangle(place, corners).map_err(fault("border"))
             }
-            Line::Finalization(number) => {
-                let row = self.finalization(number).map_err(check)?;
-                Ok(self.write_found(row)?)
-            }
+            Line::Finalization(number) => self.finalization(number).map_err(fault("check")),
             Line::Nothing => Ok(()),
         }
     }
@@ -208,14 +201,21 @@ impl<W: Write> Mesh for Border<W> {
         let live = self.live.slots.iter().filter(|live| live.number != 0);
         live.min_by_key(|live| live.number).map(|live| self.rows[usize::from(live.row)].place)
     }
+
+    fn write_out(&mut self) -> io::Result<()> {
+        io::stdout().write_all(self.lines.as_bytes())?;
+        self.lines.clear();
+        Ok(())
+    }
 }
 
 fn main() -> io::Result<()> {
-    let mut mesh = Border::new(BufWriter::new(io::stdout().lock()));
-    let fault = take_all(&mut mesh, &mut io::stdin().lock())?;
-    match fault {
-        None => writeln!(mesh.out, "ended")?,
-        Some(fault) => writeln!(mesh.out, "{fault}")?,
+    let mut mesh = Border::new();
+    let stand = take_all(&mut mesh, &mut io::stdin().lock())?;
+    mesh.write_out()?;
+    match stand {
+        Ok(()) => println!("ended"),
+        Err(fault) => println!("{fault}"),
     }
-    mesh.out.flush()
+    Ok(())
 }

@@ -1,4 +1,5 @@
-// What the plain programs of this folder share: the lines of a mesh text, read and judged one by one.
+// What the plain programs of this folder share: the lines of a mesh text, read and judged one by one. They include it: as a module of
+// its own it is compiled apart from what judges, and then a run takes a twentieth longer.
 
 use std::fmt;
 use std::io::{self, Read};
@@ -6,28 +7,16 @@ use std::io::{self, Read};
 // A line has fewer bytes than this before its line end.
 const LINE_LIMIT: usize = 128;
 const MOST_LINES: u32 = 1_000_000_000;
-pub const HIGHEST_VERTEX: u32 = 100_000_000;
+const HIGHEST_VERTEX: u32 = 100_000_000;
 const FARTHEST: u32 = 100_000;
 
 // How much is read at a time.
 const PIECE: usize = 1 << 16;
 
-pub struct Fault {
-    pub layer: &'static str,
-    pub cause: u32,
-    pub place: u32,
-}
-
-// Why no more lines are taken.
-pub enum Stop {
-    Fault(Fault),
-    Failed(io::Error),
-}
-
-impl From<io::Error> for Stop {
-    fn from(error: io::Error) -> Stop {
-        Stop::Failed(error)
-    }
+struct Fault {
+    layer: &'static str,
+    cause: u32,
+    place: u32,
 }
 
 impl fmt::Display for Fault {
@@ -36,7 +25,9 @@ impl fmt::Display for Fault {
     }
 }
 
-pub enum Line {
+enum Line {
+    // who lists the border needs no coordinates
+    #[allow(dead_code)]
     Vertex([i32; 3]),
     Triangle([u32; 3]),
     Finalization(u32),
@@ -163,54 +154,62 @@ fn cause_of(window: &[u8; LINE_LIMIT]) -> u32 {
 }
 
 // What is made of the lines of a mesh text.
-pub trait Mesh {
-    fn judge(&mut self, place: u32, line: Line) -> Result<(), Stop>;
+trait Mesh {
+    fn judge(&mut self, place: u32, line: Line) -> Result<(), Fault>;
 
     // The place of the live vertex with the lowest number.
     fn lowest_live(&self) -> Option<u32>;
+
+    // Writes what the lines taken so far gave, if they gave anything to write.
+    fn write_out(&mut self) -> io::Result<()> {
+        Ok(())
+    }
 }
 
 // Takes the line in front of the window and answers its length with the line end.
-fn take(mesh: &mut impl Mesh, place: u32, window: &[u8; LINE_LIMIT]) -> Result<usize, Stop> {
+fn take(mesh: &mut impl Mesh, place: u32, window: &[u8; LINE_LIMIT]) -> Result<usize, Fault> {
     if place > MOST_LINES {
-        return Err(Stop::Fault(Fault { layer: "reader", cause: 7, place }));
+        return Err(Fault { layer: "reader", cause: 7, place });
     }
     let Some((line, rest)) = line(skip_blanks(window)) else {
-        return Err(Stop::Fault(Fault { layer: "reader", cause: cause_of(window), place }));
+        return Err(Fault { layer: "reader", cause: cause_of(window), place });
     };
     mesh.judge(place, line)?;
     Ok(window.len() - rest.len())
 }
 
-// Takes all lines of the input. A line is taken once 128 bytes are there or the input has ended; then line ends stand behind it.
-fn take_lines(mesh: &mut impl Mesh, input: &mut impl Read) -> Result<(), Stop> {
-    let mut buffer = vec![b'\n'; PIECE + LINE_LIMIT];
-    let (mut at, mut end) = (0, 0);
-    let mut place = 0;
-    let mut closed = false;
-    loop {
-        while at + LINE_LIMIT <= end || closed && at < end {
-            let window = buffer[at..].first_chunk().expect("a window is left");
-            place += 1;
-            at += take(mesh, place, window)?;
-        }
-        if closed {
-            return Ok(());
-        }
-        buffer.copy_within(at..end, 0);
-        (at, end) = (0, end - at);
-        let read = input.read(&mut buffer[end..PIECE])?;
-        end += read;
-        closed = read == 0;
-        buffer[end..end + LINE_LIMIT].fill(b'\n');
+// A stream may not end while a vertex is live.
+fn end(mesh: &impl Mesh) -> Result<(), Fault> {
+    match mesh.lowest_live() {
+        Some(place) => Err(Fault { layer: "check", cause: 12, place }),
+        None => Ok(()),
     }
 }
 
-// Takes the whole input, and answers the fault at which it stopped. A stream may not end while a vertex is live.
-pub fn take_all(mesh: &mut impl Mesh, input: &mut impl Read) -> io::Result<Option<Fault>> {
-    match take_lines(mesh, input) {
-        Ok(()) => Ok(mesh.lowest_live().map(|place| Fault { layer: "check", cause: 12, place })),
-        Err(Stop::Fault(fault)) => Ok(Some(fault)),
-        Err(Stop::Failed(error)) => Err(error),
+// Takes all lines of the input. A line is taken once 128 bytes are there or the input has ended; then line ends stand behind it.
+fn take_all(mesh: &mut impl Mesh, input: &mut impl Read) -> io::Result<Result<(), Fault>> {
+    let mut buffer = vec![b'\n'; PIECE + LINE_LIMIT];
+    let (mut at, mut end_at) = (0, 0);
+    let mut place = 0;
+    let mut closed = false;
+    loop {
+        while at + LINE_LIMIT <= end_at || closed && at < end_at {
+            let window = buffer[at..].first_chunk().expect("a window is left");
+            place += 1;
+            match take(mesh, place, window) {
+                Ok(length) => at += length,
+                Err(fault) => return Ok(Err(fault)),
+            }
+        }
+        if closed {
+            return Ok(end(mesh));
+        }
+        mesh.write_out()?;
+        buffer.copy_within(at..end_at, 0);
+        (at, end_at) = (0, end_at - at);
+        let read = input.read(&mut buffer[end_at..PIECE])?;
+        end_at += read;
+        closed = read == 0;
+        buffer[end_at..end_at + LINE_LIMIT].fill(b'\n');
     }
 }

@@ -1,18 +1,18 @@
 // A table with open addressing and linear probing, without tombstones, that the plain programs of this folder share.
 
 // A record has a key that is not 0; an empty slot is the default, and its key is 0.
-pub trait Record: Copy + Default {
+trait Record: Copy + Default {
     fn key(&self) -> u32;
 }
 
 // There are always fewer records than slots, and the slots are a power of two.
-pub struct Table<R, const SLOTS: usize> {
-    pub slots: [R; SLOTS],
-    pub count: usize,
+struct Table<R, const SLOTS: usize> {
+    slots: [R; SLOTS],
+    count: usize,
 }
 
 impl<R: Record, const SLOTS: usize> Table<R, SLOTS> {
-    pub fn new() -> Self {
+    fn new() -> Self {
         Table { slots: [R::default(); SLOTS], count: 0 }
     }
 
@@ -21,7 +21,7 @@ impl<R: Record, const SLOTS: usize> Table<R, SLOTS> {
     }
 
     // The slot with this key, or the empty one where it would go.
-    pub fn slot(&self, key: u32) -> Result<usize, usize> {
+    fn slot(&self, key: u32) -> Result<usize, usize> {
         let mut i = Self::home(key);
         while self.slots[i].key() != key {
             if self.slots[i].key() == 0 {
@@ -32,16 +32,16 @@ impl<R: Record, const SLOTS: usize> Table<R, SLOTS> {
         Ok(i)
     }
 
-    pub fn find(&self, key: u32) -> Option<usize> {
+    fn find(&self, key: u32) -> Option<usize> {
         self.slot(key).ok()
     }
 
-    pub fn put(&mut self, empty: usize, record: R) {
+    fn put(&mut self, empty: usize, record: R) {
         self.slots[empty] = record;
         self.count += 1;
     }
 
-    pub fn insert(&mut self, record: R) {
+    fn insert(&mut self, record: R) {
         let mut i = Self::home(record.key());
         while self.slots[i].key() != 0 {
             i = (i + 1) % SLOTS;
@@ -50,7 +50,7 @@ impl<R: Record, const SLOTS: usize> Table<R, SLOTS> {
     }
 
     // Empties a slot, and moves into the hole what it would cut off from its home.
-    pub fn remove(&mut self, mut hole: usize) {
+    fn remove(&mut self, mut hole: usize) {
         let mut i = (hole + 1) % SLOTS;
         while self.slots[i].key() != 0 {
             let home = Self::home(self.slots[i].key());
