@@ -1,11 +1,13 @@
 -- What the filter keeps, through each event.
-use Rattle.std.proofs.Common.{◌≡◌, ◌≢◌, ℕ, ◌+◌, ◌-◌, ◌<◌, ◌≤◌, Bool, true, false, cond, ◌&&◌, ◌||◌, ◌==◌, List, [], ◌∷◌, Some, None, Option, take, IsPermutation, sym, refl, ap, ◌∙◌, ◌⊎◌, inl, inr, arith}
+use Rattle.std.proofs.Common.{◌≡◌, ◌≢◌, ℕ, ◌+◌, ◌-◌, ◌<◌, ◌≤◌, Bool, true, false, cond, ◌&&◌, ◌||◌, ◌==◌, List, [], ◌∷◌, Some, None, Option, take, IsPermutation, sym, refl, ap, ◌∙◌, ◌⊎◌, inl, inr, subst, arith}
 use Rattle.std.proofs.lemmas.Bool.{cases_eq, cases_Bool, eq-eqb, ne_eqb, eqb-true, eqb-false, and_from, and_parts, or_left, or_right, or_cases, or_parts, cond-true, cond-false, both_ways}
 use Rattle.std.proofs.lemmas.List.Sorted.{list_any-IsPermutation}
 use Rattle.std.proofs.lemmas.Option.{none-some, same_Some}
 use Rattle.mesh_stream.specs.Lists.{has}
 use Rattle.mesh_judge.specs.declared.live.Live.{Live}
+use Rattle.mesh_judge.specs.declared.judge.Judge.{Judge}
 use Rattle.mesh_judge.specs.Windows.{Window, fresh, put, enters, counted, leaves}
+use Rattle.mesh_judge.specs.Judging.{window_of, live_limit, Begun}
 use Rattle.mesh_edges.specs.Bordering.{edge, all_different, uses_of}
 use Rattle.mesh_edge_windows.specs.declared.open_edge.OpenEdge.{OpenEdge}
 use Rattle.mesh_edge_windows.specs.Uses.{used_by}
@@ -44,14 +46,20 @@ pub kept_by : (limit : ℕ) (w u : Window ℕ) (t s : Edges) (n : Neighbours) �
 kept_by limit w u t s n kept window edges = rw (window, edges) kept
 
 -- Before the first event.
-pub kept_first : (n : Neighbours) → free_rows n ≡ 1024 → Kept 1024 fresh no_edges n
-kept_first n free = record {
+kept_blank : (n : Neighbours) → free_rows n ≡ 1024 → Kept 1024 fresh no_edges n
+kept_blank n free = record {
   limit_is = refl;
   rows = λ i v h. absurd (none-some v h);
   free = omega arith;
   numbers = λ i v h. absurd (none-some v h);
   ends = λ a b o h. absurd (none-some o h);
 }
+
+pub kept_first : (j : Judge ℕ) (t : Edges) (n : Neighbours) → Begun 1024 j → t ≡ no_edges → free_rows n ≡ 1024
+    → Kept (live_limit j) (window_of j) t n
+kept_first j t n judge none free =
+    subst (λ limit. Kept limit (window_of j) t n) (sym judge.limit)
+    (kept_by 1024 fresh (window_of j) no_edges t n (kept_blank n free) judge.window none)
 
 -- A vertex comes in.
 module _ (limit : ℕ) (w : Window ℕ) (t : Edges) (n m : Neighbours) (kept : Kept limit w t n) (v : ℕ) (x : Live ℕ)

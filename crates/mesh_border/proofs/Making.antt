@@ -13,13 +13,16 @@ use Rattle.mesh_stream.specs.declared.stage.Standing.{Standing}
 use Rattle.mesh_stream.specs.Meaning.{Outcome, outcome, prepend}
 use Rattle.mesh_judge.specs.Accepting.{unless}
 use Rattle.mesh_judge.specs.Windows.{Window, refuses}
-use Rattle.mesh_judge.specs.Judging.{window_of, live_limit, Stands}
+use Rattle.mesh_judge.specs.Judging.{window_of, live_limit, Begun, Stands}
 use Rattle.mesh_judge.proofs.Refusing.{unless_none}
 use Rattle.mesh_layer.specs.Faults.{or_fault}
 use Rattle.mesh_layer.specs.Filtering.{Takes, StandsSo}
 use Rattle.mesh_layer.specs.Machine.{Machine, run, after, runs_on}
 use Rattle.mesh_edges.specs.declared.edge.Edge.{Edge}
+use Rattle.mesh_edges.specs.Bordering.{bordered}
+use Rattle.mesh_edge_windows.specs.Edges.{no_edges}
 use Rattle.mesh_edge_windows.specs.Windowing.{Memory, edges_refuse, memory_refuses, moves_on, hands, verdict, bordering}
+use Rattle.mesh_edge_windows.proofs.Bordering.{whole_mesh}
 use Rattle.mesh_border.specs.declared.border.Border.{Border}
 use Rattle.mesh_border.specs.declared.border.Rest.{Rest}
 use Rattle.mesh_border.specs.declared.border.Rest.TheVariants.{Nothing, Found}
@@ -99,3 +102,10 @@ module _ (old : Border) where
 
   pub stands_so : (below s : Standing) → Stands old.judge Bordering below s → StandsSo Nothing (makes old) below s
   stands_so below s h = ap (outcome []) (plain_ending (window_of old.judge) Bordering below ∙ sym h.by_window)
+
+-- A filter before the first event gives the border list of all that comes.
+pub begins : (b : Border) → Begun 1024 b.judge → edges_of b.edges ≡ no_edges → most_of b.edges ≡ 4096
+    → (o : Outcome Event) → makes b Nothing o ≡ bordered 1024 4096 o
+begins b judge none most o =
+    (λ i. run (bordering (judge.limit i) (most i)) (record { window = plain (judge.window i); edges = none i }) o.items o.stands)
+    ∙ whole_mesh 1024 4096 o
