@@ -12,6 +12,7 @@ use Rattle.mesh_stream.specs.declared.fault.LayerName.TheVariants.{Border as Bor
 use Rattle.mesh_stream.specs.declared.stage.Standing.{Standing}
 use Rattle.mesh_stream.specs.Meaning.{Outcome, outcome, prepend}
 use Rattle.mesh_judge.specs.Accepting.{unless}
+use Rattle.mesh_judge.specs.declared.judge.Judge.{Judge}
 use Rattle.mesh_judge.specs.Windows.{Window, refuses}
 use Rattle.mesh_judge.specs.Judging.{window_of, live_limit, Begun, Stands}
 use Rattle.mesh_judge.proofs.Refusing.{unless_none}
@@ -26,6 +27,7 @@ use Rattle.mesh_edge_windows.proofs.Bordering.{whole_mesh}
 use Rattle.mesh_border.specs.declared.border.Border.{Border}
 use Rattle.mesh_border.specs.declared.border.Rest.{Rest}
 use Rattle.mesh_border.specs.declared.border.Rest.TheVariants.{Nothing, Found}
+use Rattle.mesh_border.specs.declared.open_edges.OpenEdges.{OpenEdges}
 use Rattle.mesh_border.specs.OpenEdges.{edges_of, most_of, fits}
 use Rattle.mesh_border.specs.Keeping.{plain}
 use Rattle.mesh_border.specs.Making.{memory_of, makes, Refuses, Worked}
@@ -104,8 +106,9 @@ module _ (old : Border) where
   stands_so below s h = ap (outcome []) (plain_ending (window_of old.judge) Bordering below ∙ sym h.by_window)
 
 -- A filter before the first event gives the border list of all that comes.
-pub begins : (b : Border) → Begun 1024 b.judge → edges_of b.edges ≡ no_edges → most_of b.edges ≡ 4096
-    → (o : Outcome Event) → makes b Nothing o ≡ bordered 1024 4096 o
-begins b judge none most o =
+pub begins : (j : Judge ℕ) (edges : OpenEdges) → Begun 1024 j → edges_of edges ≡ no_edges → most_of edges ≡ 4096 → (o : Outcome Event)
+    → run (bordering (live_limit j) (most_of edges)) (record { window = plain (window_of j); edges = edges_of edges }) o.items o.stands
+    ≡ bordered 1024 4096 o
+begins j edges judge none most o =
     (λ i. run (bordering (judge.limit i) (most i)) (record { window = plain (judge.window i); edges = none i }) o.items o.stands)
     ∙ whole_mesh 1024 4096 o

@@ -16,10 +16,13 @@ impl Border {
     pub fn new() -> Border
         ensures { (o : Outcome EventOf) → ⟦<Border as Filter>⟧.rewrites result Nothing o ≡ bordered 1024 4096 o }
     {
+        let judge = Judge::new();
+        let edges = OpenEdges::new();
+        let neighbours = Neighbours::new();
         Border {
-            judge: Judge::new(),
-            edges: OpenEdges::new(),
-            neighbours: Neighbours::new(),
+            judge,
+            edges,
+            neighbours,
             ends: [0; LIVE_LIMIT],
             found: Found::new(),
         }

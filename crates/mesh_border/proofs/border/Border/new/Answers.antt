@@ -4,7 +4,7 @@ use Rattle.mesh_border.proofs.Making.{begins}
 use Rattle.mesh_border.proofs.border.Border.new.Goals as goal
 
 pub invariant_of-result : goal.invariant_of-result
-invariant_of-result c = record { kept = kept_first _ _ _ c.new.ensures c.new-2.ensures.none c.new-3.ensures.free; long = refl }
+invariant_of-result c = record { kept = kept_first _ _ _ c.new-judge.ensures c.new-edges.ensures.none c.new-neighbours.ensures.free; long = refl }
 
 pub returns : goal.returns
-returns c = begins _ c.new.ensures c.new-2.ensures.none c.new-2.ensures.most
+returns c = begins _ _ c.new-judge.ensures c.new-edges.ensures.none c.new-edges.ensures.most
