@@ -7,4 +7,4 @@ pub invariant_of-result : goal.invariant_of-result
 invariant_of-result c = record { kept = kept_first _ _ _ c.new-judge.ensures c.new-edges.ensures.none c.new-neighbours.ensures.free; long = refl }
 
 pub returns : goal.returns
-returns c = begins _ _ c.new-judge.ensures c.new-edges.ensures.none c.new-edges.ensures.most
+returns c = begins c.new-judge.result c.new-edges.result c.new-judge.ensures c.new-edges.ensures.none c.new-edges.ensures.most
