@@ -61,12 +61,12 @@ print_more (Some text) (Some rest) F G H u v w (es, all, lines) p = (
   add_lines u v w es p.edges lines p.lines,
 )
 
-pub pass_more : (known left next : Option (List ℕ)) (F G H : Meaning Edge) (u v : Option (List ℕ))
-    → PrintedOf known left F G u v → TextPassed left next G H → PrintedOf known next F H u v
-pass_more None left next F G H u v so_far p = tt
-pass_more (Some text) None next F G H u v so_far p = absurd so_far
-pass_more (Some text) (Some rest) None F G H u v so_far p = absurd p
-pass_more (Some text) (Some rest) (Some more) F G H u v (es, all, lines) p = (es, all ∙ ap (prepends es) (sym p), lines)
+pub pass_more : (known left next : Option (List ℕ)) (F G H : Meaning Edge) (q : Port) (u v : Option (List ℕ))
+    → PrintedOf known left F G u v → TextPassed left next G q H → PrintedOf known next F H u v
+pass_more None left next F G H q u v so_far p = tt
+pass_more (Some text) None next F G H q u v so_far p = absurd so_far
+pass_more (Some text) (Some rest) None F G H q u v so_far p = absurd p
+pass_more (Some text) (Some rest) (Some more) F G H q u v (es, all, lines) p = (es, all ∙ ap (prepends es) (sym p.same), lines)
 
 waits : (s : Standing) → IsWaiting s → s ≡ Waiting
 waits Waiting w = refl

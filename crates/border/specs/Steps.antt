@@ -1,8 +1,8 @@
 -- What each step prints and reads.
-use Rattle.std.specs.Prelude.{◌≡◌, ℕ, ◌≤◌, List, [], length, take, ⊤, None, Some, Option}
+use Rattle.std.specs.Prelude.{◌≡◌, ◌⊎◌, ℕ, ◌<◌, ◌≤◌, List, [], length, take, ⊤, None, Some, Option}
 use Rattle.std.specs.Io.KnownBytes.{Appends, Consumes, IsAtEnd}
 use Rattle.mesh_stream.specs.declared.stage.Standing.{Standing}
-use Rattle.mesh_stream.specs.Meaning.{Mark, unclosed, closed, Port, outcome, Meaning, IsWaiting}
+use Rattle.mesh_stream.specs.Meaning.{Mark, unclosed, closed, Port, shut, outcome, Meaning, IsWaiting}
 use Rattle.mesh_stream.specs.Calls.{Roomy}
 use Rattle.mesh_stream.specs.Runs.{prepends}
 use Rattle.mesh_edges.specs.declared.edge.Edge.{Edge}
@@ -25,8 +25,13 @@ pub record PieceRead (most : ℕ) (old new : Option (List ℕ)) (n : ℕ) (piece
   pub bytes : Consumes old new (take n piece)
   pub at_end : n ≡ 0 → 1 ≤ most → 1 ≤ length piece → IsAtEnd new
 
--- Some of the bytes to read were handed to a stage, or their end: of all that is to read, closed, it means the same as before.
-abbrev pub TextPassed : Option (List ℕ) → Option (List ℕ) → Meaning Edge → Meaning Edge → Type 0
-TextPassed None new G H = ⊤
-TextPassed (Some text) None G H = ⊥
-TextPassed (Some text) (Some rest) G H = H rest closed ≡ G text closed
+-- Some of the bytes to read were handed to a stage, or it was closed at their end: of all that is to read, closed, it means the same as
+-- before.
+pub record Passed (text rest : List ℕ) (G : Meaning Edge) (p : Port) (H : Meaning Edge) : Type 0 where
+  pub same : H rest closed ≡ G text closed
+  pub onward : (length rest < length text) ⊎ (p ≡ shut)
+
+abbrev pub TextPassed : Option (List ℕ) → Option (List ℕ) → Meaning Edge → Port → Meaning Edge → Type 0
+TextPassed None new G p H = ⊤
+TextPassed (Some text) None G p H = ⊥
+TextPassed (Some text) (Some rest) G p H = Passed text rest G p H

@@ -54,7 +54,7 @@ fn pass_text<R: Read, S: Inlet<Item = Edge>>(
     requires room { 1 ≤ room (S.Stage.port stage.now) }
     requires piece { 1 ≤ length piece.now }
     ensures passed { OnOk result (TextPassed (R.Read.remaining input.old) (R.Read.remaining input.new)
-        (S.Stage.meaning stage.old) (S.Stage.meaning stage.new)) }
+        (S.Stage.meaning stage.old) (S.Stage.port stage.new) (S.Stage.meaning stage.new)) }
     ensures same_length { length piece.new ≡ length piece.old }
 {
     let length = read_piece(input, piece, stage.room())?;
@@ -74,7 +74,8 @@ fn print_standing<W: Write>(standing: Standing, out: &mut W) -> io::Result<()>
     out.flush()
 }
 
-// Prints what the stage means of the whole text that the input gives. It reads no further than where the stage ends or is at fault.
+// Prints what the stage means of the whole text that the input gives. It reads no further than where the stage ends or is at fault. The
+// loop has a bound since an input may go on for ever; no text is so long that it takes 2^64 - 1 reads.
 fn list_border<R: Read, S: Inlet<Item = Edge> + Drop, W: Write>(
     input: &mut R,
     mut stage: S,

@@ -1,4 +1,4 @@
-// The border list: a layer whose items are border edges.
+// The border list: a filter under a layer, whose items are border edges.
 #![tactic(auto)]
 
 pub mod border;

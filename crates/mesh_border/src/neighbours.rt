@@ -9,8 +9,9 @@ const ROWS: usize = 1024;
 
 const WORDS: usize = 16;
 
-// Which live vertices were joined by an edge: a matrix of bits. Each live vertex has a row, and the column of the same number. A bit may
-// stay where the column has gone to another vertex since; so a row says which vertices may be joined with its own, and no other is.
+// Which live vertices a triangle named together: a matrix of bits. Each live vertex has a row, and the column of the same number. A bit
+// may stay where the column has gone to another vertex since; so a row says which vertices may be joined with its own by an edge, and no
+// other is.
 #[derive(Drop)]
 pub(crate) struct Neighbours {
     bits: [[u64; WORDS]; ROWS],

@@ -38,7 +38,7 @@ pub record WorkedExamples : Type 0 where
   pub tetrahedron : Gives 4096
       (Vertex 1 1 (at 0 0) ∷ Vertex 2 2 (at 10 0) ∷ Vertex 3 3 (at 0 10) ∷ Vertex 4 4 (at 10 10)
       ∷ Triangle 5 1 2 3 ∷ Triangle 6 1 4 2 ∷ Triangle 7 2 4 3 ∷ Triangle 8 3 4 1 ∷ all_gone) Ended [] Ended
-  -- A second triangle that goes along the diagonal in the same direction, or a third triangle there: used more than once, it is not single.
+  -- With a third triangle on the diagonal, that edge is used three times, twice in the same direction: it is not single.
   pub fin : Gives 4096
       (square ++ (Vertex 7 5 (at 5 5) ∷ Triangle 8 1 4 5 ∷ Finalization 9 1 ∷ Finalization 10 4 ∷ [])) Waiting
       (edge 5 1 2 ∷ edge 6 3 1 ∷ edge 8 5 1 ∷ edge 5 2 4 ∷ edge 6 4 3 ∷ edge 8 4 5 ∷ []) Waiting

@@ -10,6 +10,6 @@ returns-in_default g c =
 pub loop-preserved : goal.loop-preserved
 loop-preserved g c = record {
   piece = omega arith;
-  so_far = pass_more _ _ _ _ _ _ _ _
+  so_far = pass_more _ _ _ _ _ _ _ _ _
       (print_more _ _ _ _ _ _ _ _ c.loop.invariant.so_far c.in_ok-standing.ensures.printed) c.in_ok-pass_text-in-Waiting.ensures.passed;
 }
