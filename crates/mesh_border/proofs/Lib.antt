@@ -7,5 +7,6 @@ mod Closing
 mod Plain
 mod Keeping
 mod Making
--- The law on runs.
+-- The law on runs, and who names a fault over a pile.
+mod Standing
 mod BorderLaw

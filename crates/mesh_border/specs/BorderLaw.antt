@@ -1,9 +1,12 @@
 -- The border list on a stage, and the law on runs.
-use Rattle.std.specs.Prelude.{◌≡◌, ℕ, List}
+use Rattle.std.specs.Prelude.{◌≡◌, ℕ, ◌⊎◌, List, [], ◌∷◌, ◌++◌}
 use Rattle.mesh_stream.specs.declared.event.Event.{Event}
+use Rattle.mesh_stream.specs.declared.fault.Cause.TheVariants.{TooManyOpenEdges}
+use Rattle.mesh_stream.specs.declared.fault.LayerName.TheVariants.{Border}
 use Rattle.mesh_stream.specs.Meaning.{Mark, Outcome, Meaning}
 use Rattle.mesh_stream.specs.Runs.{View, Call, Run}
-use Rattle.mesh_rules.specs.Piling.{Rule, pile}
+use Rattle.mesh_judge.specs.Accepting.{fault}
+use Rattle.mesh_rules.specs.Piling.{Rule, pile, lowest_stands}
 use Rattle.mesh_layer.specs.Law.{Piled, Follows}
 use Rattle.mesh_edges.specs.declared.edge.Edge.{Edge}
 use Rattle.mesh_edges.specs.Bordering.{bordered}
@@ -22,3 +25,8 @@ pub record BorderOn (limit most : ℕ) (v : View Event) (w : View Edge) : Type 0
   -- calls after the end among them, follows the border list of what the pile makes of the bottom's list.
   pub law : (lower : List Rule) (G : Meaning Event) → Piled limit lower G v
       → (cs : List (Call Edge)) (x : View Edge) → Run w cs x → Follows (border_of limit most lower) G cs x
+  -- Over a pile of at least one layer it stands as the lowest layer alone would, or is at fault itself for too many open edges: nothing
+  -- else of what its own judging knows can show.
+  pub stands : (lower : List Rule) (top : Rule) (G : Meaning Event) → Piled limit (lower ++ (top ∷ [])) G v → (t : List ℕ) (m : Mark)
+      → ((w.means t m).stands ≡ lowest_stands limit (lower ++ (top ∷ [])) (G t m))
+      ⊎ ((p : ℕ) × ((w.means t m).stands ≡ fault Border TooManyOpenEdges p))
