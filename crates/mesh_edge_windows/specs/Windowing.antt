@@ -1,5 +1,5 @@
 -- What a border list keeps of the events that it accepted, and the machine that judges and finds border edges by that alone.
-use Rattle.std.specs.Prelude.{ℕ, List, [], Some, None, Option, nat_le}
+use Rattle.std.specs.Prelude.{ℕ, List, [], None, Option, nat_le}
 use Rattle.std.specs.Option.{option_or}
 use Rattle.mesh_stream.specs.declared.event.Event.{Event}
 use Rattle.mesh_stream.specs.declared.event.Event.TheVariants.{Vertex, Triangle, Finalization}
