@@ -17,8 +17,8 @@ use Rattle.mesh_edges.specs.Bordering.{edge}
 use Rattle.mesh_edge_windows.specs.declared.open_edge.OpenEdge.{OpenEdge}
 use Rattle.mesh_edge_windows.specs.Uses.{single}
 use Rattle.mesh_edge_windows.specs.Edges.{Edges, joins, number_bound, open_at, singles, close_at}
+use Rattle.mesh_edge_windows.proofs.Opening.{edges_same}
 use Rattle.mesh_border.specs.OpenEdges.{without, Among}
-use Rattle.mesh_border.proofs.Edging.{edges_equal}
 
 -- ---- lists that rise, and their last
 has_high : (j n : ℕ) (ks : List ℕ) → All (λ m. m ≤ n) ks → n < j → has j ks ≡ false
@@ -123,7 +123,7 @@ close_rest : (t : Edges) (i k : ℕ)
     → open_at t i ≡ open_at (without t i k) i ++ option_to_list (t.between i k)
     → close_at (without t i k) i ≡ close_at t i
 close_rest t i k h =
-    edges_equal (close_at (without t i k) i) (close_at t i) (λ a b. shut a b (a == i || b == i) refl)
+    edges_same (close_at (without t i k) i) (close_at t i) (λ a b. shut a b (a == i || b == i) refl)
     (one_fewer t.count (length (open_at (without t i k) i)) (length (open_at t i)) (t.between i k)
     (ap length h ∙ length-append (open_at (without t i k) i) (option_to_list (t.between i k))))
   where
@@ -222,7 +222,7 @@ none_open t i among =
 
 none_to_close : (t : Edges) (i : ℕ) → ((a b : ℕ) → t.between a b ≡ t.between b a) → Among t i [] → close_at t i ≡ t
 none_to_close t i either among =
-    edges_equal (close_at t i) t (λ a b. go a b (a == i) (b == i) refl refl)
+    edges_same (close_at t i) t (λ a b. go a b (a == i) (b == i) refl refl)
     (ap (λ (z : List OpenEdge). t.count - length z) (none_open t i among) ∙ minus t.count)
   where
     minus : (m : ℕ) → m - 0 ≡ m

@@ -1,5 +1,6 @@
 -- What the calls of the table do to the open edges that it holds.
-use Rattle.std.proofs.Common.{◌≡◌, ℕ, ◌+◌, ◌-◌, ◌≤◌, min, max, Bool, true, false, cond, ◌&&◌, ◌||◌, ◌==◌, [], ◌∷◌, is_some, Some, None, Option, ◌⊎◌, ⊎_elim, refl, sym, ap, subst, ◌∙◌, arith}
+use Rattle.std.proofs.Common.{◌≡◌, ℕ, ◌+◌, ◌-◌, ◌≤◌, min, max, Bool, true, false, cond, ◌&&◌, ◌||◌, ◌==◌, [], ◌∷◌, is_some, Some, None, Option, ⊎_elim, refl, sym, ap, subst, ◌∙◌, arith}
+use Rattle.std.proofs.Math.Nat.{min_comm, max_comm}
 use Rattle.std.proofs.lemmas.Bool.{both_ways, leb-true}
 use Rattle.std.proofs.lemmas.Bool.Decides.{nat_tests}
 use Rattle.mesh_table.specs.declared.key.Key.{Key}
@@ -11,32 +12,20 @@ use Rattle.mesh_edges.specs.Bordering.{edge, all_different, uses_of}
 use Rattle.mesh_edge_windows.specs.declared.open_edge.OpenEdge.{OpenEdge}
 use Rattle.mesh_edge_windows.specs.Uses.{used_by, first_used, used_again}
 use Rattle.mesh_edge_windows.specs.Edges.{Edges, joins, newly, use_edge, use_all}
+use Rattle.mesh_edge_windows.proofs.Joining.{joins_cases}
+use Rattle.mesh_edge_windows.proofs.Opening.{edges_same}
 use Rattle.mesh_border.specs.declared.open_edges.OpenEdges.{OpenEdges}
 use Rattle.mesh_border.specs.OpenEdges.{edges_of, most_of, fits, without, TakenOut}
 
--- open edges are what is kept between any two vertices, and their number
-pub edges_equal : (s t : Edges) → ((a b : ℕ) → s.between a b ≡ t.between a b) → s.count ≡ t.count → s ≡ t
-edges_equal s t h k = λ i. record { between = λ a b. h a b i; count = k i }
-
 -- keys are the same where the ends are, in either order
-min_swap : (a b : ℕ) → min a b ≡ min b a
-min_swap a b = omega arith
-
-max_swap : (a b : ℕ) → max a b ≡ max b a
-max_swap a b = omega arith
-
 key_swap : (a b : ℕ) → edge_key a b ≡ edge_key b a
-key_swap a b = λ i. record { first = min_swap a b i; second = max_swap a b i }
-
-joins_cases : (a b c d : ℕ) → (a == c && b == d || a == d && b == c) ≡ true
-    → ((a ≡ c) × (b ≡ d)) ⊎ ((a ≡ d) × (b ≡ c))
-joins_cases a b c d h = grind (arith, nat_tests)
+key_swap a b = λ i. record { first = min_comm a b i; second = max_comm a b i }
 
 joined_key : (a b : ℕ) (e : Edge) → joins a b e ≡ true → edge_key a b ≡ edge_key e.from e.to
 joined_key a b e h =
     ⊎_elim (λ (p : (a ≡ e.from) × (b ≡ e.to)). λ i. edge_key (p.0 i) (p.1 i))
     (λ (p : (a ≡ e.to) × (b ≡ e.from)). (λ i. edge_key (p.0 i) (p.1 i)) ∙ key_swap e.to e.from)
-    (joins_cases a b e.from e.to h)
+    (joins_cases a b e h)
 
 same_ends : (a b c d : ℕ) → min a b ≡ min c d → max a b ≡ max c d → (a == c && b == d || a == d && b == c) ≡ true
 same_ends a b c d p q = grind (arith, nat_tests)
@@ -74,14 +63,14 @@ module _ {n : ℕ} (t u : Table OpenEdge n) where
       → held u ≡ use_edge (held t) e
   used e k o w q d p m s =
       let before : o ≡ (held t).between e.from e.to = sym d ∙ ap (record_at t) q in
-      edges_equal (held u) (use_edge (held t) e)
+      edges_same (held u) (use_edge (held t) e)
       (used_at e w (p ∙ ap (λ (x : Option OpenEdge). used_by x e) before) (subst (λ (x : Key). Sets t u x (Some w)) q s))
       (m ∙ ap (λ z. records t + z) (sym (new_if k e.from e.to o q d)))
 
   taken : (k : Key) (a b : ℕ) (r : Option OpenEdge) → k ≡ edge_key a b → Removed t u k r → held u ≡ without (held t) a b
   taken k a b r q h =
       let was : r ≡ (held t).between a b = h.0 ∙ ap (record_at t) q in
-      edges_equal (held u) (without (held t) a b)
+      edges_same (held u) (without (held t) a b)
       (λ x y. set_at (edge 0 a b) None (subst (λ (z : Key). Sets t u z None) q h.2) x y (joins x y (edge 0 a b)) refl)
       (fewer (records u) (records t) _ _ h.1 (ap (λ (z : Option OpenEdge). cond (is_some z) 1 0) was))
     where

@@ -193,6 +193,7 @@ module _ (limit : ℕ) (w : Window ℕ) (t : Edges) (n : Neighbours) (kept : Kep
       let mine : s.first ≡ x = same_Some s.first x (sym s.first_is ∙ live) in
       listed s.second.note j (ap (λ (z : Live ℕ). near n z.note s.second.note) (sym mine) ∙ s.near_is) (kept.rows j s.second s.second_is).1
 
+  -- What is sorted is the slice of the list from 0 to `count`, and a slice is given by its length, `count - 0`.
   pub ends_among : (into : List ℕ) (count : ℕ) (ends : List ℕ) → Listed n x.note into count → IsPermutation (take (count - 0) into) ends
       → Among t i ends
   ends_among into count ends listed moved j o h =

@@ -19,10 +19,11 @@ use Rattle.mesh_judge.proofs.Refusing.{unless_none}
 use Rattle.mesh_layer.specs.Faults.{or_fault}
 use Rattle.mesh_layer.specs.Filtering.{Takes, StandsSo}
 use Rattle.mesh_layer.specs.Machine.{Machine, run, after, runs_on}
+use Rattle.mesh_layer.specs.JudgingMachine.{verdict}
 use Rattle.mesh_edges.specs.declared.edge.Edge.{Edge}
 use Rattle.mesh_edges.specs.Bordering.{bordered}
 use Rattle.mesh_edge_windows.specs.Edges.{no_edges}
-use Rattle.mesh_edge_windows.specs.Windowing.{Memory, edges_refuse, memory_refuses, moves_on, hands, verdict, bordering}
+use Rattle.mesh_edge_windows.specs.Windowing.{Memory, edges_refuse, memory_refuses, moves_on, hands, bordering}
 use Rattle.mesh_edge_windows.proofs.Bordering.{whole_mesh}
 use Rattle.mesh_border.specs.declared.border.Border.{Border}
 use Rattle.mesh_border.specs.declared.border.Rest.{Rest}
@@ -85,7 +86,7 @@ module _ (old : Border) where
 
   abbrev goes_by : Event → Option Cause → Outcome Event → Outcome Edge
   goes_by e v o =
-      after (verdict e v (moves_on (memory_of old) e) (hands (memory_of old) e)) (λ m. run machine m o.items o.stands)
+      after (verdict Bordering e v (moves_on (memory_of old) e) (hands (memory_of old) e)) (λ m. run machine m o.items o.stands)
 
   by_verdict : (e : Event) (v : Option Cause) → refused_for old e v → (o : Outcome Event)
       → makes old Nothing (prepend e o) ≡ goes_by e v o

@@ -8,8 +8,7 @@ use Rattle.mesh_layer.specs.Filtering.{Filtering}
 use Rattle.mesh_layer.specs.Machine.{runs_on}
 use Rattle.mesh_layer.specs.MachineLaw.{machine_filters}
 use Rattle.mesh_edges.specs.declared.edge.Edge.{Edge}
-use Rattle.mesh_edge_windows.specs.Windowing.{Memory, memory_refuses, moves_on, hands, bordering}
-use Rattle.mesh_edge_windows.specs.Patience.{bordering_patient}
+use Rattle.mesh_edge_windows.specs.Windowing.{Memory, memory_refuses, moves_on, hands, bordering, bordering_patient}
 use Rattle.mesh_border.specs.declared.border.Border.{Border}
 use Rattle.mesh_border.specs.declared.border.Rest.{Rest}
 use Rattle.mesh_border.specs.declared.border.Rest.TheVariants.{Nothing, Found}

@@ -3,6 +3,7 @@ ghost use Rattle.mesh_judge.specs.Judging.{live_limit, window_of};
 ghost use Rattle.mesh_border.specs.Keeping.{Kept};
 ghost use Rattle.mesh_border.specs.OpenEdges.{edges_of};
 
+use crate::LIVE_LIMIT;
 use crate::found::Found;
 use crate::neighbours::Neighbours;
 use crate::open_edges::OpenEdges;
@@ -12,9 +13,6 @@ mod filter;
 mod judged;
 mod start;
 
-// How many vertices may be live at once.
-const LIVE_LIMIT: usize = 1024;
-
 // The filter of the border list: it hands over, at the finalization of a vertex, the single ones of the edges open there.
 #[derive(Drop)]
 pub struct Border {
@@ -22,7 +20,8 @@ pub struct Border {
     judge: Judge<u16>,
     edges: OpenEdges,
     neighbours: Neighbours,
-    // the vertices that may be the other ends of open edges, while a finalization is worked in
+    // The vertices that may be the other ends of open edges, while a finalization is worked in: a field, since a local of its size, 4 KiB,
+    // would be written anew at each finalization.
     ends: [u32; LIVE_LIMIT],
     // what the last finalization gave
     found: Found,

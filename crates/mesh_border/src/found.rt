@@ -2,11 +2,9 @@ ghost use Rattle.std.specs.Prelude.{◌≡◌, List, [], ◌∷◌, ◌<◌, ◌
 ghost use Rattle.mesh_edges.specs.declared.edge.Edge.{Edge as EdgeOf};
 ghost use Rattle.mesh_border.specs.Finding.{Popped};
 
+use crate::LIVE_LIMIT;
 use mesh_edges::edge::Edge;
 use std::marker::Model;
-
-// As many edges as may be open at one vertex.
-const MOST: usize = 1024;
 
 const NO_EDGE: Edge = Edge {
     from: 0,
@@ -17,7 +15,7 @@ const NO_EDGE: Edge = Edge {
 // The edges that are still to be handed over, the next of them last: a list that grows and shrinks at its front.
 #[derive(Drop)]
 pub(crate) struct Found {
-    edges: [Edge; MOST],
+    edges: [Edge; LIVE_LIMIT],
     count: usize,
 }
 
@@ -34,7 +32,7 @@ impl Found {
         ensures { result ≡ [] }
     {
         Found {
-            edges: [NO_EDGE; MOST],
+            edges: [NO_EDGE; LIVE_LIMIT],
             count: 0,
         }
     }

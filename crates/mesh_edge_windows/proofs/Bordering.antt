@@ -22,6 +22,7 @@ use Rattle.mesh_judge.specs.Windows.{Knows}
 use Rattle.mesh_judge.proofs.Refusing.{triangle_ok}
 use Rattle.mesh_judge.proofs.Knowing.{refuses_is, ending_is, knows_none, knows_vertex, knows_triangle, knows_final}
 use Rattle.mesh_layer.specs.Machine.{after, run}
+use Rattle.mesh_layer.specs.JudgingMachine.{verdict}
 use Rattle.mesh_rules.proofs.Having.{has_right}
 use Rattle.mesh_rules.proofs.Living.{live_not_final}
 use Rattle.mesh_rules.proofs.Bounding.{bounded}
@@ -31,7 +32,7 @@ use Rattle.mesh_rules.proofs.Beginnings.{accepted_ok, accepted_parts}
 use Rattle.mesh_edges.specs.declared.edge.Edge.{Edge}
 use Rattle.mesh_edges.specs.Bordering.{edge, all_different, uses_of, uses, same_edge, is_open, gives, gives_in, ends_at, border_after, edge_refusal, border_rules}
 use Rattle.mesh_edge_windows.specs.Edges.{Edges, number_bound, use_all, close_at}
-use Rattle.mesh_edge_windows.specs.Windowing.{Memory, blank, edges_refuse, memory_refuses, moves_on, hands, verdict, bordering}
+use Rattle.mesh_edge_windows.specs.Windowing.{Memory, blank, edges_refuse, memory_refuses, moves_on, hands, bordering}
 use Rattle.mesh_edge_windows.specs.WholeMesh.{WholeMesh}
 use Rattle.mesh_edge_windows.proofs.Opening.{edges_in, used_all}
 use Rattle.mesh_edge_windows.proofs.Closing.{InRange, closed_all, rising_gives}
@@ -173,7 +174,7 @@ module _ (limit most : ℕ) (s : Standing) (all : List Event) (ok : Accepted (re
       rest = accepted_after rules more xs
 
       step_by : Option Cause → Outcome Edge
-      step_by o = after (verdict e o (moves_on m e) (hands m e)) (λ n. run (bordering limit most) n xs s)
+      step_by o = after (verdict Border e o (moves_on m e) (hands m e)) (λ n. run (bordering limit most) n xs s)
 
       at : (o : Option Cause) → rules es e ≡ o
           → (Remembers limit (moves_on m e) more → all ≡ more ++ rest → run (bordering limit most) (moves_on m e) xs s ≡ still more xs)

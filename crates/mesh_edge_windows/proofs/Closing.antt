@@ -1,6 +1,7 @@
 -- The open edges at a vertex, by rising number of the other end; and what its finalization makes of the open edges.
 use Rattle.std.proofs.Common.{◌≡◌, ℕ, ◌+◌, ◌-◌, ◌<◌, ◌≤◌, Bool, true, false, cond, not, ◌&&◌, ◌||◌, eqb, List, [], ◌∷◌, ◌++◌, length, Some, None, filter, Option, flat_map, option_to_list, sym, refl, ap, ◌∙◌, append-nil, arith}
 use Rattle.std.specs.List.{range_with_len, AllByRecursion as All}
+use Rattle.std.proofs.Math.Bool.{and-true}
 use Rattle.std.proofs.lemmas.Bool.{and_right, and_parts}
 use Rattle.std.proofs.lemmas.List.Elements.{filter_agree}
 use Rattle.std.proofs.lemmas.List.Filters.{length-filter_both}
@@ -14,7 +15,7 @@ use Rattle.mesh_edge_windows.specs.declared.open_edge.OpenEdge.{OpenEdge}
 use Rattle.mesh_edge_windows.specs.declared.open_edge.Uses.TheVariants.{More}
 use Rattle.mesh_edge_windows.specs.Uses.{used_by, single}
 use Rattle.mesh_edge_windows.specs.Edges.{joins, number_bound, open_at, singles, close_at}
-use Rattle.mesh_edge_windows.proofs.Listing.{and_true, kept_twice, kept_none, kept_inside, kept_if, flat_map_agree, flat_map_twice, flat_map_lengths}
+use Rattle.mesh_edge_windows.proofs.Listing.{kept_twice, kept_none, kept_inside, kept_if, flat_map_agree, flat_map_twice, flat_map_lengths}
 use Rattle.mesh_edge_windows.proofs.Buckets.{rising_is, rising_length}
 use Rattle.mesh_edge_windows.proofs.Joining.{same_swap, joined_same, joins_is}
 use Rattle.mesh_edge_windows.proofs.Opening.{kept_of, both_live, edge_in, open_in, edges_in, edges_same, live_joined}
@@ -117,7 +118,7 @@ module _ (us : List Edge) (gone : List ℕ) (i : ℕ) (P : Edge → Type 0) (in_
     where
       at : (e : Edge) (b : Bool) → joins i j e ≡ b → (is_open gone e && joins i j e) ≡ (joins i j e && both_live gone i j)
       at e true h =
-          ap (λ z. is_open gone e && z) h ∙ and_true (is_open gone e) ∙ live_joined gone i j e h
+          ap (λ z. is_open gone e && z) h ∙ and-true (is_open gone e) ∙ live_joined gone i j e h
           ∙ sym (ap (λ z. z && both_live gone i j) h)
       at e false h = and_right (is_open gone e) (joins i j e) h ∙ sym (ap (λ z. z && both_live gone i j) h)
 

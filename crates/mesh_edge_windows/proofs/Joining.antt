@@ -1,5 +1,6 @@
 -- An edge by its two ends.
 use Rattle.std.proofs.Common.{◌≡◌, ℕ, Bool, true, false, cond, ◌&&◌, ◌||◌, eqb, ◌⊎◌, sym, refl, ap, ◌∙◌, inl, inr, arith}
+use Rattle.std.proofs.Math.Bool.{and_comm, or_comm}
 use Rattle.std.proofs.lemmas.Bool.Decides.{nat_tests}
 use Rattle.std.proofs.lemmas.Bool.{eqb-true, and_parts, or_cases}
 use Rattle.mesh_edges.specs.declared.edge.Edge.{Edge}
@@ -9,23 +10,11 @@ use Rattle.mesh_edge_windows.specs.Edges.{joins}
 eqb_swap : (m n : ℕ) → eqb m n ≡ eqb n m
 eqb_swap m n = grind (arith, nat_tests)
 
-pub and_swap : (x y : Bool) → (x && y) ≡ (y && x)
-and_swap true true = refl
-and_swap true false = refl
-and_swap false true = refl
-and_swap false false = refl
-
-or_swap : (x y : Bool) → (x || y) ≡ (y || x)
-or_swap true true = refl
-or_swap true false = refl
-or_swap false true = refl
-or_swap false false = refl
-
 joins_swap : (a b : ℕ) (e : Edge) → joins a b e ≡ joins b a e
 joins_swap a b e =
-    or_swap (eqb a e.from && eqb b e.to) (eqb a e.to && eqb b e.from)
-    ∙ ap (λ x. x || (eqb a e.from && eqb b e.to)) (and_swap (eqb a e.to) (eqb b e.from))
-    ∙ ap (λ x. (eqb b e.from && eqb a e.to) || x) (and_swap (eqb a e.from) (eqb b e.to))
+    or_comm (eqb a e.from && eqb b e.to) (eqb a e.to && eqb b e.from)
+    ∙ ap (λ x. x || (eqb a e.from && eqb b e.to)) (and_comm (eqb a e.to) (eqb b e.from))
+    ∙ ap (λ x. (eqb b e.from && eqb a e.to) || x) (and_comm (eqb a e.from) (eqb b e.to))
 
 -- they are its ends, in either order
 abbrev pub Ends : ℕ → ℕ → Edge → Type 0
@@ -51,7 +40,7 @@ same_swap x y =
     ∙ ap (λ z. (eqb y.from x.from && z) || (eqb x.from y.to && eqb x.to y.from)) (eqb_swap x.to y.to)
     ∙ ap (λ z. (eqb y.from x.from && eqb y.to x.to) || (z && eqb x.to y.from)) (eqb_swap x.from y.to)
     ∙ ap (λ z. (eqb y.from x.from && eqb y.to x.to) || (eqb y.to x.from && z)) (eqb_swap x.to y.from)
-    ∙ ap (λ z. (eqb y.from x.from && eqb y.to x.to) || z) (and_swap (eqb y.to x.from) (eqb y.from x.to))
+    ∙ ap (λ z. (eqb y.from x.from && eqb y.to x.to) || z) (and_comm (eqb y.to x.from) (eqb y.from x.to))
 
 -- an edge at i, by its other end
 joins_at : (i j f t : ℕ)

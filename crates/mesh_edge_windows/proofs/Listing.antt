@@ -1,12 +1,10 @@
 -- Lists filtered in turn, and lists made of a list for each element.
-use Rattle.std.proofs.Common.{◌≡◌, ◌+◌, Bool, true, false, cond, ◌&&◌, List, [], ◌∷◌, ◌++◌, length, filter, flat_map, sym, refl, ap, ◌∙◌, append_assoc, length-append}
+use Rattle.std.proofs.Common.{◌≡◌, ◌+◌, Bool, true, false, cond, ◌&&◌, List, [], ◌∷◌, ◌++◌, length, filter, flat_map, sym, refl, ap, ◌∙◌, length-append}
+use Rattle.std.proofs.Math.Bool.{and-true}
 use Rattle.std.proofs.lemmas.Bool.{and_right}
+use Rattle.std.proofs.lemmas.Grind.{flat_map-append}
 use Rattle.std.proofs.lemmas.List.Elements.{filter_agree}
 use Rattle.mesh_stream.proofs.Having.{kept_yes, kept_no}
-
-pub and_true : (x : Bool) → (x && true) ≡ x
-and_true true = refl
-and_true false = refl
 
 implied : (q p : Bool) → (p ≡ true → q ≡ true) → (q && p) ≡ p
 implied q true h = ap (λ z. z && true) (h refl)
@@ -31,7 +29,7 @@ module _ {X : Type 0} where
   kept_inside p q xs h = sym (kept_twice p q xs) ∙ filter_agree _ _ (λ x. implied (q x) (p x) (h x)) xs
 
   pub kept_if : (p : X → Bool) (b : Bool) (xs : List X) → filter (λ x. p x && b) xs ≡ cond b (filter p xs) []
-  kept_if p true xs = filter_agree _ _ (λ x. and_true (p x)) xs
+  kept_if p true xs = filter_agree _ _ (λ x. and-true (p x)) xs
   kept_if p false xs = kept_none _ xs (λ x. and_right (p x) false refl)
 
 module _ {A B : Type 0} where
@@ -39,11 +37,6 @@ module _ {A B : Type 0} where
   flat_map_agree f g h [] = refl
   flat_map_agree f g h (x ∷ xs) =
       ap (λ (z : List B). z ++ flat_map f xs) (h x) ∙ ap (λ (z : List B). g x ++ z) (flat_map_agree f g h xs)
-
-  pub flat_map-append : (f : A → List B) (xs ys : List A) → flat_map f (xs ++ ys) ≡ flat_map f xs ++ flat_map f ys
-  flat_map-append f [] ys = refl
-  flat_map-append f (x ∷ xs) ys =
-      ap (λ (z : List B). f x ++ z) (flat_map-append f xs ys) ∙ sym (append_assoc (f x) (flat_map f xs) (flat_map f ys))
 
   pub flat_map_none : (xs : List A) → flat_map {A = B} (λ (x : A). []) xs ≡ []
   flat_map_none [] = refl

@@ -1,6 +1,7 @@
 -- The open edges after some uses and finalizations, by their ends and counted; and what one use more makes of them.
 use Rattle.std.proofs.Common.{◌≡◌, ℕ, ◌+◌, Bool, true, false, cond, not, ◌&&◌, List, [], ◌∷◌, ◌++◌, length, is_some, Some, None, filter, Option, sym, refl, ap, ◌∙◌, inl, inr, append_assoc, append-nil, length-append}
 use Rattle.std.specs.List.{AllByRecursion as All}
+use Rattle.std.proofs.Math.Bool.{and_comm}
 use Rattle.std.proofs.lemmas.List.Elements.{filter-append}
 use Rattle.mesh_stream.specs.Lists.{has}
 use Rattle.mesh_stream.proofs.Having.{kept_yes, kept_no}
@@ -9,7 +10,7 @@ use Rattle.mesh_edges.specs.Bordering.{same_edge, first_uses, is_open}
 use Rattle.mesh_edge_windows.specs.declared.open_edge.OpenEdge.{OpenEdge}
 use Rattle.mesh_edge_windows.specs.Uses.{used_by}
 use Rattle.mesh_edge_windows.specs.Edges.{Edges, joins, newly, use_edge, use_all}
-use Rattle.mesh_edge_windows.proofs.Joining.{and_swap, Ends, joins_cases, same_swap}
+use Rattle.mesh_edge_windows.proofs.Joining.{Ends, joins_cases, same_swap}
 
 -- What is kept of an edge after these uses of it.
 abbrev pub kept_of : Option OpenEdge → List Edge → Option OpenEdge
@@ -49,7 +50,7 @@ live_joined gone a b e h = at (joins_cases a b e h)
     at : Ends a b e → is_open gone e ≡ both_live gone a b
     at (inl p) = ap (λ m. both_live gone m e.to) (sym p.0) ∙ ap (λ m. both_live gone a m) (sym p.1)
     at (inr p) =
-        and_swap (not (has e.from gone)) (not (has e.to gone)) ∙ ap (λ m. both_live gone m e.from) (sym p.0)
+        and_comm (not (has e.from gone)) (not (has e.to gone)) ∙ ap (λ m. both_live gone m e.from) (sym p.0)
         ∙ ap (λ m. both_live gone a m) (sym p.1)
 
 -- The first uses after one use more: it is one of them if there was none of this edge before.

@@ -4,6 +4,5 @@ pub mod Uses
 pub mod Edges
 -- The machine of the border list.
 pub mod Windowing
-pub mod Patience
 -- That it gives the border list of the whole mesh.
 pub mod WholeMesh

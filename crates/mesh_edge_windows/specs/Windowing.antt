@@ -1,15 +1,15 @@
 -- What a border list keeps of the events that it accepted, and the machine that judges and finds border edges by that alone.
-use Rattle.std.specs.Prelude.{ℕ, List, [], Some, None, Option, nat_le}
+use Rattle.std.specs.Prelude.{ℕ, List, [], None, Option, nat_le}
 use Rattle.std.specs.Option.{option_or}
 use Rattle.mesh_stream.specs.declared.event.Event.{Event}
 use Rattle.mesh_stream.specs.declared.event.Event.TheVariants.{Vertex, Triangle, Finalization}
 use Rattle.mesh_stream.specs.declared.fault.Cause.{Cause}
 use Rattle.mesh_stream.specs.declared.fault.Cause.TheVariants.{TooManyOpenEdges}
 use Rattle.mesh_stream.specs.declared.fault.LayerName.TheVariants.{Border}
-use Rattle.mesh_stream.specs.Events.{place_of}
 use Rattle.mesh_judge.specs.Accepting.{unless}
-use Rattle.mesh_judge.specs.Windows.{Window, fresh, refuses, enters, counted, leaves, ending}
-use Rattle.mesh_layer.specs.Machine.{Verdict, goes, stops, Machine}
+use Rattle.mesh_judge.specs.Windows.{Window, fresh, refuses, enters, counted, leaves}
+use Rattle.mesh_layer.specs.Machine.{Machine, Patient}
+use Rattle.mesh_layer.specs.JudgingMachine.{judging, judging_patient}
 use Rattle.mesh_edges.specs.declared.edge.Edge.{Edge}
 use Rattle.mesh_edges.specs.Bordering.{uses_of}
 use Rattle.mesh_edge_windows.specs.Edges.{Edges, no_edges, use_all, open_at, singles, close_at}
@@ -45,13 +45,9 @@ hands m (Vertex p n v) = []
 hands m (Triangle p a b c) = []
 hands m (Finalization p i) = singles (open_at m.edges i)
 
-abbrev pub verdict : Event → Option Cause → Memory → List Edge → Verdict Memory Edge
-verdict e None m out = goes m out
-verdict e (Some c) m out = stops (record { layer = Border; cause = c; place = place_of e })
-
 -- The machine of the border list, with at most `limit` live vertices and `most` open edges.
 abbrev pub bordering : ℕ → ℕ → Machine Memory Event Edge
-bordering limit most = record {
-  step = λ m e. verdict e (memory_refuses limit most m e) (moves_on m e) (hands m e);
-  end = λ m s. ending Border m.window s;
-}
+bordering limit most = judging Border (λ m. m.window) (memory_refuses limit most) moves_on hands
+
+pub bordering_patient : (limit most : ℕ) → Patient (bordering limit most)
+bordering_patient limit most = judging_patient Border (λ m. m.window) (memory_refuses limit most) moves_on hands

@@ -10,8 +10,9 @@ use Rattle.mesh_judge.specs.Windows.{Window, refuses}
 use Rattle.mesh_judge.specs.Judging.{window_of, live_limit, Begun, Accepts, Rejects}
 use Rattle.mesh_layer.specs.Filtering.{Takes}
 use Rattle.mesh_layer.specs.Machine.{Machine, run, after, runs_on}
+use Rattle.mesh_layer.specs.JudgingMachine.{verdict}
 use Rattle.mesh_layer.specs.Faults.{or_fault}
-use Rattle.mesh_windows.specs.Windowing.{Memory, blank, remembers, Work, moves_on, verdict, machine}
+use Rattle.mesh_windows.specs.Windowing.{Memory, blank, remembers, Work, moves_on, machine}
 use Rattle.mesh_filters.specs.Handing.{memory_by, means, HandsOver, Handed}
 
 -- From the judge's answer to the filter's.

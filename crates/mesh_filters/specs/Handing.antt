@@ -10,8 +10,7 @@ use Rattle.mesh_judge.specs.Judging.{window_of, live_limit}
 use Rattle.mesh_layer.specs.Filtering.{Filtering}
 use Rattle.mesh_layer.specs.Machine.{runs_on}
 use Rattle.mesh_layer.specs.MachineLaw.{machine_filters}
-use Rattle.mesh_windows.specs.Windowing.{Memory, remembers, Work, moves_on, machine}
-use Rattle.mesh_windows.specs.Patience.{machine_patient}
+use Rattle.mesh_windows.specs.Windowing.{Memory, remembers, Work, moves_on, machine, machine_patient}
 
 abbrev pub events_of : Option Event → List Event
 events_of None = []

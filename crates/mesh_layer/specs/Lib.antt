@@ -6,6 +6,7 @@ pub mod Layering
 -- Filters that are machines.
 pub mod Machine
 pub mod MachineLaw
+pub mod JudgingMachine
 -- The law on runs.
 pub mod Law
 -- Orders worked off.

@@ -12,7 +12,8 @@ use Rattle.mesh_judge.specs.Windows.{Knows}
 use Rattle.mesh_judge.proofs.Knowing.{refuses_is, ending_is}
 use Rattle.mesh_judge.proofs.Splitting.{judged_all, judged_stop}
 use Rattle.mesh_layer.specs.Machine.{after, run}
-use Rattle.mesh_windows.specs.Windowing.{Memory, blank, Work, moves_on, verdict, machine}
+use Rattle.mesh_layer.specs.JudgingMachine.{verdict}
+use Rattle.mesh_windows.specs.Windowing.{Memory, blank, Work, moves_on, machine}
 use Rattle.mesh_windows.proofs.Recalling.{Recalls, Notes, recalls_none, recalls_more}
 
 abbrev pub Making : Type 0

@@ -1,6 +1,5 @@
 -- The machine of a layer, and what each layer does by it.
 pub mod Windowing
 pub mod Working
-pub mod Patience
 -- That it gives what the rules make of the whole list.
 pub mod WholeMesh

@@ -1,13 +1,12 @@
 -- What a layer keeps of the events that it accepted, and the machine that judges and rewrites by that alone.
-use Rattle.std.specs.Prelude.{ℕ, List, Some, None, Option}
+use Rattle.std.specs.Prelude.{ℕ, List}
 use Rattle.mesh_stream.specs.declared.event.Point.{Point}
 use Rattle.mesh_stream.specs.declared.event.Event.{Event}
 use Rattle.mesh_stream.specs.declared.event.Event.TheVariants.{Vertex, Triangle, Finalization}
-use Rattle.mesh_stream.specs.declared.fault.Cause.{Cause}
 use Rattle.mesh_stream.specs.declared.fault.LayerName.{LayerName}
-use Rattle.mesh_stream.specs.Events.{place_of}
-use Rattle.mesh_judge.specs.Windows.{Window, fresh, refuses, enters, counted, leaves, ending}
-use Rattle.mesh_layer.specs.Machine.{Verdict, goes, stops, Machine}
+use Rattle.mesh_judge.specs.Windows.{Window, fresh, refuses, enters, counted, leaves}
+use Rattle.mesh_layer.specs.Machine.{Machine, Patient}
+use Rattle.mesh_layer.specs.JudgingMachine.{judging, judging_patient}
 
 -- The window of the layer's judge, and how many new numbers the layer gave.
 pub record Memory (T : Type 0) : Type 0 where
@@ -38,13 +37,9 @@ moves_on work m (Vertex p n v) =
 moves_on work m (Triangle p a b c) = work.marks (remembers (counted m.window) m.given) a b c
 moves_on work m (Finalization p i) = remembers (leaves m.window i) m.given
 
-abbrev pub verdict : {T : Type 0} → LayerName → Event → Option Cause → Memory T → List Event → Verdict (Memory T) Event
-verdict layer e None m out = goes m out
-verdict layer e (Some c) m out = stops (record { layer = layer; cause = c; place = place_of e })
-
 -- The machine of a layer, under its name: it judges by its window, and stands as its judge does.
 abbrev pub machine : {T : Type 0} → ℕ → LayerName → Work T → Machine (Memory T) Event Event
-machine limit layer work = record {
-  step = λ m e. verdict layer e (refuses limit m.window e) (moves_on work m e) (work.hands m e);
-  end = λ m s. ending layer m.window s;
-}
+machine limit layer work = judging layer (λ m. m.window) (λ m. refuses limit m.window) (moves_on work) work.hands
+
+pub machine_patient : {T : Type 0} (limit : ℕ) (layer : LayerName) (work : Work T) → Patient (machine limit layer work)
+machine_patient limit layer work = judging_patient layer (λ m. m.window) (λ m. refuses limit m.window) (moves_on work) work.hands

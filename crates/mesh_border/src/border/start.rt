@@ -4,7 +4,8 @@ ghost use Rattle.mesh_stream.specs.Meaning.{Outcome};
 ghost use Rattle.mesh_edges.specs.Bordering.{bordered};
 ghost use Rattle.mesh_border.specs.declared.border.Rest.TheVariants.{Nothing};
 
-use crate::border::{Border, LIVE_LIMIT};
+use crate::LIVE_LIMIT;
+use crate::border::Border;
 use crate::found::Found;
 use crate::neighbours::Neighbours;
 use crate::open_edges::OpenEdges;

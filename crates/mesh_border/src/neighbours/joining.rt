@@ -2,7 +2,8 @@
 ghost use Rattle.std.specs.Prelude.{◌≡◌, ◌+◌, ◌*◌, ◌<◌, ◌≤◌, length};
 ghost use Rattle.mesh_border.specs.Rows.{BitSet, Joined, Listed, WordListed, KeepsListed};
 
-use crate::neighbours::{Neighbours, ROWS, WORDS};
+use crate::LIVE_LIMIT;
+use crate::neighbours::Neighbours;
 
 impl Neighbours {
     // Sets one bit.
@@ -24,7 +25,7 @@ impl Neighbours {
     }
 
     // Lists those of one word of a row, behind the first `count` of the list.
-    fn list_word(&self, k: usize, word: u64, into: &mut [u32; ROWS], count: usize) -> usize
+    fn list_word(&self, k: usize, word: u64, into: &mut [u32; LIVE_LIMIT], count: usize) -> usize
         requires inside { k < 16 }
         requires room { count ≤ k * 64 }
         requires long { length into.old ≡ 1024 }
@@ -47,7 +48,7 @@ impl Neighbours {
     }
 
     // Lists the vertices that may be joined with that of a row, and answers how many they are.
-    pub(crate) fn list(&self, row: u16, into: &mut [u32; ROWS]) -> usize
+    pub(crate) fn list(&self, row: u16, into: &mut [u32; LIVE_LIMIT]) -> usize
         requires row { row < 1024 }
         requires long { length into.old ≡ 1024 }
         ensures few { result ≤ 1024 }

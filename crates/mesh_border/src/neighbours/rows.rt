@@ -2,15 +2,16 @@
 ghost use Rattle.std.specs.Prelude.{◌≡◌, ℕ, ◌<◌, true, length, is_some, None, slice_index_or};
 ghost use Rattle.mesh_border.specs.Rows.{vertex_of, free_rows, next_row, Entered, LeftRow};
 
-use crate::neighbours::{Neighbours, ROWS, WORDS};
+use crate::LIVE_LIMIT;
+use crate::neighbours::{Neighbours, WORDS};
 
 // All rows, each free.
-fn all_rows() -> [u16; ROWS]
+fn all_rows() -> [u16; LIVE_LIMIT]
     ensures long { length result ≡ 1024 }
     ensures rows { (k : ℕ) → k < 1024 → slice_index_or result k 0 ≡ k }
 {
-    let mut rows = [0; ROWS];
-    for row in 0..1024u16 {
+    let mut rows = [0; LIVE_LIMIT];
+    for row in 0..LIVE_LIMIT as u16 {
         rows[usize::from(row)] = row;
     }
     rows
@@ -22,10 +23,10 @@ impl Neighbours {
         ensures bare { (r : ℕ) → vertex_of result r ≡ None }
     {
         Neighbours {
-            bits: [[0; WORDS]; ROWS],
-            vertices: [None; ROWS],
+            bits: [[0; WORDS]; LIVE_LIMIT],
+            vertices: [None; LIVE_LIMIT],
             free: all_rows(),
-            free_count: ROWS,
+            free_count: LIVE_LIMIT,
         }
     }
 

@@ -3,8 +3,8 @@ ghost use Rattle.std.specs.List.Sorted.{IsNonDecreasing};
 ghost use Rattle.mesh_edge_windows.specs.Edges.{open_at, singles, close_at};
 ghost use Rattle.mesh_border.specs.OpenEdges.{edges_of, most_of, TakenOut, Among};
 
-use super::OpenEdges;
 use crate::found::Found;
+use crate::open_edges::OpenEdges;
 use mesh_edge_windows::open_edge::OpenEdge;
 use mesh_table::key::Key;
 

@@ -3,7 +3,7 @@ ghost use Rattle.mesh_edges.specs.Bordering.{all_different, uses_of};
 ghost use Rattle.mesh_edge_windows.specs.Edges.{no_edges, use_all, use_edge, newly};
 ghost use Rattle.mesh_border.specs.OpenEdges.{edges_of, most_of, fits};
 
-use super::{OPEN_LIMIT, OpenEdges};
+use crate::open_edges::{OPEN_LIMIT, OpenEdges};
 use mesh_edge_windows::open_edge::OpenEdge;
 use mesh_edges::edge::Edge;
 use mesh_table::key::Key;
