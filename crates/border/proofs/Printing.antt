@@ -1,5 +1,5 @@
 -- What was printed so far, and what that makes of the whole.
-use Rattle.std.proofs.Common.{◌≡◌, ℕ, List, [], ◌∷◌, ◌++◌, Option, Some, None, Ok, Err, Result, IfSome, OnOk, sym, refl, ap, ◌∙◌, subst, append_assoc, append-nil}
+use Rattle.std.proofs.Common.{◌≡◌, ℕ, List, [], ◌∷◌, ◌++◌, Option, Some, None, IfSome, sym, refl, ap, ◌∙◌, subst, append_assoc, append-nil}
 use Rattle.std.proofs.lemmas.Grind.{flat_map-append}
 use Rattle.std.specs.Io.KnownBytes.{Appends}
 use Rattle.mesh_stream.specs.declared.stage.Standing.{Standing}
@@ -9,8 +9,10 @@ use Rattle.mesh_stream.specs.Shown.{standing_text}
 use Rattle.mesh_stream.specs.Runs.{prepends}
 use Rattle.mesh_edges.specs.declared.edge.Edge.{Edge}
 use Rattle.mesh_edges.specs.Shown.{edge_text}
+use Rattle.border.specs.declared.Listed.{Listed}
+use Rattle.border.specs.declared.Listed.TheVariants.{Whole, Endless}
 use Rattle.border.specs.Listing.{line, edge_lines, listing}
-use Rattle.border.specs.Steps.{Printed, Emptied, TextPassed}
+use Rattle.border.specs.Steps.{Printed, Emptied, TextPassed, ListedAs}
 
 append_then : (u v w : Option (List ℕ)) (a b : List ℕ) → Appends u v a → Appends v w b → Appends u w (a ++ b)
 append_then None v w a b x y = tt
@@ -91,9 +93,8 @@ all_printed (Some text) (Some rest) F G u v w p s law e n (es, all, lines) last 
     whole = all ∙ ap (prepends es) stays
 
 -- What is printed for a text by one meaning is printed by another that gives the same.
-pub same_listing : {E : Type 0} (known u w : Option (List ℕ)) (r : Result (Unit {0}) E) (F G : List ℕ → Outcome Edge)
-    → ((t : List ℕ) → F t ≡ G t) → IfSome known (λ text. OnOk r (Appends u w (listing (F text))))
-    → IfSome known (λ text. OnOk r (Appends u w (listing (G text))))
-same_listing None u w r F G same printed = tt
-same_listing (Some text) u w (Ok _) F G same printed = subst (λ (o : Outcome Edge). Appends u w (listing o)) (same text) printed
-same_listing (Some text) u w (Err e) F G same printed = tt
+pub same_listing : (known u w : Option (List ℕ)) (l : Listed) (F G : List ℕ → Outcome Edge) → ((t : List ℕ) → F t ≡ G t) → l ≡ Whole
+    → IfSome known (λ text. ListedAs text (F text) u w l) → IfSome known (λ text. Appends u w (listing (G text)))
+same_listing None u w l F G same whole printed = tt
+same_listing (Some text) u w Whole F G same whole printed = subst (λ (o : Outcome Edge). Appends u w (listing o)) (same text) printed
+same_listing (Some text) u w Endless F G same whole printed = cc

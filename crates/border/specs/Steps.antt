@@ -1,12 +1,14 @@
 -- What each step prints and reads.
-use Rattle.std.specs.Prelude.{◌≡◌, ◌⊎◌, ℕ, ◌<◌, ◌≤◌, List, [], length, take, ⊤, None, Some, Option}
+use Rattle.std.specs.Prelude.{◌≡◌, ◌⊎◌, ℕ, ◌+◌, ◌^◌, ◌<◌, ◌≤◌, List, [], length, take, ⊤, None, Some, Option}
 use Rattle.std.specs.Io.KnownBytes.{Appends, Consumes, IsAtEnd}
 use Rattle.mesh_stream.specs.declared.stage.Standing.{Standing}
-use Rattle.mesh_stream.specs.Meaning.{Mark, unclosed, closed, Port, shut, outcome, Meaning, IsWaiting}
+use Rattle.mesh_stream.specs.Meaning.{Mark, unclosed, closed, Port, shut, Outcome, outcome, Meaning, IsWaiting}
 use Rattle.mesh_stream.specs.Calls.{Roomy}
 use Rattle.mesh_stream.specs.Runs.{prepends}
 use Rattle.mesh_edges.specs.declared.edge.Edge.{Edge}
-use Rattle.border.specs.Listing.{edge_lines}
+use Rattle.border.specs.declared.Listed.{Listed}
+use Rattle.border.specs.declared.Listed.TheVariants.{Whole, Endless}
+use Rattle.border.specs.Listing.{edge_lines, listing}
 
 -- A stage that meant G handed over some edges and means H now; these were printed.
 pub record Printed (G : Meaning Edge) (old : Option (List ℕ)) (H : Meaning Edge) (new : Option (List ℕ)) : Type 0 where
@@ -35,3 +37,8 @@ abbrev pub TextPassed : Option (List ℕ) → Option (List ℕ) → Meaning Edge
 TextPassed None new G p H = ⊤
 TextPassed (Some text) None G p H = ⊥
 TextPassed (Some text) (Some rest) G p H = Passed text rest G p H
+
+-- The listing of a text's outcome was printed; or the text has 2^64 - 2 bytes or more.
+abbrev pub ListedAs : List ℕ → Outcome Edge → Option (List ℕ) → Option (List ℕ) → Listed → Type 0
+ListedAs text o old new Whole = Appends old new (listing o)
+ListedAs text o old new Endless = 2 ^ 64 ≤ length text + 2

@@ -3,10 +3,11 @@
 
 ghost use Rattle.std.specs.Prelude.{◌≡◌, ◌≤◌, length, IfOk, IfSome, OnOk};
 ghost use Rattle.std.specs.Io.KnownBytes.{Appends};
+ghost use Rattle.mesh_stream.specs.Calls.{SameKind};
 ghost use Rattle.mesh_stream.specs.Meaning.{closed, room};
 ghost use Rattle.mesh_stream.specs.Shown.{standing_text};
 ghost use Rattle.border.specs.Listing.{line, listing, text_border};
-ghost use Rattle.border.specs.Steps.{Printed, Emptied, PieceRead, TextPassed};
+ghost use Rattle.border.specs.Steps.{Printed, Emptied, PieceRead, TextPassed, ListedAs};
 
 use mesh_border::border_list::border_list;
 use mesh_edges::edge::Edge;
@@ -23,6 +24,7 @@ const PIECE: usize = 4096;
 fn print_edges<S: Stage<Item = Edge>, W: Write>(stage: &mut S, out: &mut W) -> io::Result<Standing>
     ensures printed { OnOk result (Printed (S.Stage.meaning stage.old) (W.Write.contents out.old)
         (S.Stage.meaning stage.new) (W.Write.contents out.new)) }
+    ensures port_kept { SameKind (S.Stage.port stage.old) (S.Stage.port stage.new) }
     ensures none_left { IfOk result (λ s. Emptied s (S.Stage.port stage.new) (S.Stage.meaning stage.new)) }
 {
     loop {
@@ -74,15 +76,21 @@ fn print_standing<W: Write>(standing: Standing, out: &mut W) -> io::Result<()>
     out.flush()
 }
 
+// Whether all of a text was listed, or it is longer than any text can be.
+enum Listed {
+    Whole,
+    Endless,
+}
+
 // Prints what the stage means of the whole text that the input gives. It reads no further than where the stage ends or is at fault. The
 // loop has a bound since an input may go on for ever; no text is so long that it takes 2^64 - 1 reads.
 fn list_border<R: Read, S: Inlet<Item = Edge> + Drop, W: Write>(
     input: &mut R,
     mut stage: S,
     out: &mut W,
-) -> anyhow::Result<()>
-    ensures { IfSome (R.Read.remaining input.old) (λ text. OnOk result
-        (Appends (W.Write.contents out.old) (W.Write.contents out.new) (listing (S.Stage.meaning stage text closed)))) }
+) -> anyhow::Result<Listed>
+    ensures { IfSome (R.Read.remaining input.old) (λ text. IfOk result
+        (ListedAs text (S.Stage.meaning stage text closed) (W.Write.contents out.old) (W.Write.contents out.new))) }
 {
     let mut piece = [0; PIECE];
     for _ in 0..u64::MAX {
@@ -90,11 +98,11 @@ fn list_border<R: Read, S: Inlet<Item = Edge> + Drop, W: Write>(
             Standing::Waiting => pass_text(input, &mut stage, &mut piece)?,
             standing => {
                 print_standing(standing, out)?;
-                return Ok(());
+                return Ok(Listed::Whole);
             }
         }
     }
-    Err(io::Error::other("the text does not end").into())
+    Ok(Listed::Endless)
 }
 
 // Prints the border list of the text that the input gives.
@@ -102,7 +110,10 @@ fn print_border<R: Read, W: Write>(input: &mut R, out: &mut W) -> anyhow::Result
     ensures { IfSome (R.Read.remaining input.old) (λ text. OnOk result
         (Appends (W.Write.contents out.old) (W.Write.contents out.new) (listing (text_border text)))) }
 {
-    list_border(input, border_list(check(TextReader::new())), out)
+    match list_border(input, border_list(check(TextReader::new())), out)? {
+        Listed::Whole => Ok(()),
+        Listed::Endless => Err(io::Error::other("the text does not end").into()),
+    }
 }
 
 fn main(rt: HostRuntime) -> anyhow::Result<()> {

@@ -5,9 +5,9 @@ use Rattle.mesh_edges.specs.Bordering.{bordered}
 use Rattle.border.proofs.Printing.{same_listing}
 use Rattle.border.proofs.print_border.Goals as goal
 
-pub returns : goal.returns
-returns g c =
+pub returns-in-Whole : goal.returns-in-Whole
+returns-in-Whole g c =
     same_listing _ _ _ _ _ _ (λ t.
     let checked = c.check.ensures.by_rule t closed ∙ ap (through 1024 checks) (c.new.ensures.means t closed) in
     c.border_list.ensures.by_definition t closed ∙ ap (bordered 1024 4096) checked)
-    c.list_border.ensures
+    c.in-Whole.is c.in_ok-list_border.ensures
