@@ -1,0 +1,35 @@
+// The whole library in one crate, to import alone.
+#![tactic(auto)]
+
+// What flows: events, faults and refusals, border edges.
+pub use mesh_edges::edge::Edge;
+pub use mesh_stream::event::{Event, Point};
+pub use mesh_stream::fault::{Cause, Fault, LayerName, Refusal};
+
+// What it flows through.
+pub use mesh_stream::stage::{Inlet, Stage, Standing};
+
+// The bottoms.
+pub use mesh_bottoms::grid::Grid;
+pub use mesh_bottoms::list::ListStage;
+pub use mesh_reader::reader::TextReader;
+
+// Layers, and the regions that clip cuts by.
+pub use mesh_layer::filter::Filter;
+pub use mesh_layer::layer::Layer;
+pub use mesh_piles::pile::{check, clean, clip, compact, renumber};
+pub use mesh_regions::aligned_box::AlignedBox;
+pub use mesh_regions::half_space::HalfSpace;
+pub use mesh_regions::region::Region;
+
+// Orders worked off on a pile.
+pub use mesh_layer::order::{Order, Reply};
+pub use mesh_layer::work::{ask_on, work_off};
+
+// What is made of the events: border edges, reports.
+pub use mesh_border::border_list::border_list;
+pub use mesh_piles::text_report::{text_report, TextPile};
+pub use mesh_report::report::Report;
+pub use mesh_report::stream_report::StreamReport;
+pub use mesh_report::totals::Totals;
+// x
