@@ -1,4 +1,4 @@
-# Shared by the benchmarks: the programs, the texts, the times of runs and the best of them, the peak memory.
+# What bench/run is made of: the programs, the texts, the time and the memory of a run, and the tables that are printed.
 
 # build NAME WORD..: proves and builds the program, and runs it once with these arguments
 build() {
@@ -9,19 +9,17 @@ build() {
 
 program() { echo "crates/$1/out/$1"; }
 
-# makes a small and a large text in a folder that is removed at the end
-texts() {
-    work=$(mktemp -d)
-    trap 'rm -rf "$work"' EXIT
-    build grid_text 2 2 1
-    "$(program grid_text)" 50 50 1 > "$work/small.txt"
-    "$(program grid_text)" 1000 1000 1 > "$work/large.txt"
-}
-
-# compile NAME: a plain Rust program of this folder, put beside the texts
+# compile NAME: the plain Rust program NAME.rs of this folder
 compile() { rustc -O --edition 2021 -o "$work/$1" "bench/$1.rs"; }
 
-# how long one run over a file as standard input takes, in microseconds
+# text COLUMNS ROWS: a grid as a mesh text, in a file of its own; answers the file
+text() {
+    local file=$work/$1x$2.txt
+    [ -e "$file" ] || "$(program grid_text)" "$1" "$2" 1 > "$file"
+    echo "$file"
+}
+
+# took FILE COMMAND..: how long one run over a file as standard input takes, in microseconds
 took() {
     local file=$1 start
     shift
@@ -33,65 +31,53 @@ took() {
 # the least of some numbers
 least() { printf '%s\n' "$@" | sort -n | head -n 1; }
 
-# the shortest of five runs over a file as standard input, in microseconds
+# best FILE COMMAND..: the shortest of five runs
 best() { least $(for _ in 1 2 3 4 5; do took "$@"; done); }
 
-# one time over another, with two digits behind the point
-ratio() { printf '%d.%02d' $(($1 / $2)) $((100 * $1 / $2 % 100)); }
-
-# microseconds as milliseconds
-milliseconds() { for time in "$@"; do printf ' %d' $((time / 1000)); done; }
-
-# the largest resident set over a file as standard input, in KiB
+# peak FILE COMMAND..: the largest resident set, in KiB
 peak() {
     local file=$1
     shift
     /usr/bin/time -f %M "$@" < "$file" 2>&1 > /dev/null
 }
 
-# the peak memory of a command on both texts
-peaks() {
-    local size
-    for size in small large; do
-        echo "$(peak "$work/$size.txt" "$@") KiB at $(wc -l < "$work/$size.txt") lines"
-    done | paste -sd , | sed 's/,/, /'
-}
+# one number over another, with two digits behind the point
+ratio() { printf '%d.%02d' $(($1 / $2)) $((100 * $1 / $2 % 100)); }
 
-# compare NAME COMMAND..: the command on the large text beside `wc -l`, and its peak memory on both texts
-compare() {
-    local name=$1 bytes ours theirs
-    shift
-    bytes=$(stat -c %s "$work/large.txt")
-    ours=$(best "$work/large.txt" "$@")
-    theirs=$(best "$work/large.txt" wc -l)
-    echo "text         $(wc -l < "$work/large.txt") lines, $bytes bytes"
-    echo "$name  $((ours / 1000)) ms, $((bytes / ours)) MB/s"
-    echo "wc -l        $((theirs / 1000)) ms, $((bytes / theirs)) MB/s"
-    echo "ratio        $(ratio "$ours" "$theirs")"
-    echo "peak memory  $(peaks "$@")"
-}
+# microseconds as milliseconds
+milliseconds() { for time in "$@"; do printf ' %d' $((time / 1000)); done; }
 
-# agree ONE TWO: breaks off unless both programs print the same on both texts
-agree() {
-    local size
-    for size in small large; do
-        if ! diff <("$1" < "$work/$size.txt") <("$2" < "$work/$size.txt"); then
-            echo "$1 and $2 differ on the $size text" >&2
-            exit 1
-        fi
-    done
-}
-
-# in_turn ONE TWO: seven runs of both programs in turn on the large text, the best of each, their ratio, and the peak memory of each
-in_turn() {
-    local ones=() twos=() one two
+# beside FILE ONE TWO: breaks off unless both programs print the same on the file; then seven runs of both in turn, the best of each,
+# their ratio, and the peak memory of each
+beside() {
+    local file=$1 one=$2 two=$3 ones=() twos=()
+    if ! cmp -s <("$one" < "$file") <("$two" < "$file"); then
+        echo "$one and $two differ on $file" >&2
+        exit 1
+    fi
     for _ in 1 2 3 4 5 6 7; do
-        ones+=("$(took "$work/large.txt" "$1")")
-        twos+=("$(took "$work/large.txt" "$2")")
+        ones+=("$(took "$file" "$one")")
+        twos+=("$(took "$file" "$two")")
     done
-    one=$(least "${ones[@]}")
-    two=$(least "${twos[@]}")
-    echo "$(basename "$1"): best$(milliseconds "$one") ms of$(milliseconds "${ones[@]}"); peak memory $(peaks "$1")"
-    echo "$(basename "$2"): best$(milliseconds "$two") ms of$(milliseconds "${twos[@]}"); peak memory $(peaks "$2")"
-    echo "ratio of the best: $(ratio "$one" "$two")"
+    echo "$(basename "$one"): best$(milliseconds "$(least "${ones[@]}")") ms of$(milliseconds "${ones[@]}"); peak memory $(peak "$file" "$one") KiB"
+    echo "$(basename "$two"): best$(milliseconds "$(least "${twos[@]}")") ms of$(milliseconds "${twos[@]}"); peak memory $(peak "$file" "$two") KiB"
+    echo "ratio of the best: $(ratio "$(least "${ones[@]}")" "$(least "${twos[@]}")")"
+}
+
+# row NAME COLUMNS ROWS: a line of the table of sizes
+row() {
+    local file lines time
+    file=$(text "$2" "$3")
+    lines=$(wc -l < "$file")
+    time=$(best "$file" "$(program "$1")")
+    printf '%-8s %10d %12d %10d %12d %12d\n' \
+        "$1" "$lines" "$(stat -c %s "$file")" $((time / 1000)) $((time * 1000 / lines)) "$(peak "$file" "$(program "$1")")"
+}
+
+# sizes NAME: the program on texts of about 10^4, 10^5, 10^6 and 10^7 lines
+sizes() {
+    row "$1" 50 50
+    row "$1" 250 100
+    row "$1" 500 500
+    row "$1" 1000 2500
 }
