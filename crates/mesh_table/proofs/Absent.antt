@@ -4,9 +4,9 @@ use Rattle.std.proofs.lemmas.Bool.{cases_order}
 use Rattle.mesh_table.specs.declared.key.Key.{Key}
 use Rattle.mesh_table.specs.declared.ring.Probe.{Probe}
 use Rattle.mesh_table.specs.declared.ring.Probe.TheVariants.{Found, Vacant, Exhausted}
-use Rattle.mesh_table.specs.Probing.{Slot, holding, slot_at, slot_ahead, home_slot, filled, size, lookup, value_in, Misses, Passed, Distinct, Reached, Probed, Sought}
+use Rattle.mesh_table.specs.Probing.{Slot, holding, slot_at, slot_ahead, home_slot, filled, size, lookup, value_in, Passed, Distinct, Reached, Probed, Sought}
 use Rattle.mesh_table.proofs.Steps.{ahead_onto}
-use Rattle.mesh_table.proofs.SlotCases.{empty_full, foreign_misses, foreign_filled}
+use Rattle.mesh_table.proofs.SlotCases.{Misses, empty_full, foreign_misses, foreign_filled}
 use Rattle.mesh_table.proofs.Finite.{full_inside, size_full, lookup_none, lookup_here}
 
 module _ {V : Type 0} (n : ℕ) (ss : List (Slot V)) (k : Key) (len : length ss ≡ n) (hn : home_slot n k < n) where

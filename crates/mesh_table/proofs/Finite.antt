@@ -4,9 +4,9 @@ use Rattle.std.proofs.lemmas.List.{get_or_past, get_or-set_same, get_or-set_othe
 use Rattle.std.proofs.lemmas.Bool.{cases_lt, cases_eq, cases_order, cases_Bool, cond-true, cond-false}
 use Rattle.mesh_table.specs.declared.key.Key.{Key}
 use Rattle.mesh_table.specs.Keys.{same_key}
-use Rattle.mesh_table.specs.Probing.{Slot, holding, slot_at, pick, lookup, filled, size, Misses, Distinct}
+use Rattle.mesh_table.specs.Probing.{Slot, holding, slot_at, pick, lookup, filled, size, Distinct}
 use Rattle.mesh_table.proofs.Keys.{same_key_refl, same_key_true}
-use Rattle.mesh_table.proofs.SlotCases.{empty_full}
+use Rattle.mesh_table.proofs.SlotCases.{Misses, empty_full}
 
 pick_miss : {V : Type 0} (s : Slot V) (k : Key) (o : Option V) → Misses s k → pick s k o ≡ o
 pick_miss None k o m = refl

@@ -1,9 +1,13 @@
 -- A slot is empty or full, and a full one has one key.
-use Rattle.std.proofs.Common.{◌≡◌, Some, None, sym, refl, ap, ◌∙◌}
+use Rattle.std.proofs.Common.{◌≡◌, ◌≢◌, Some, None, sym, refl, ap, ◌∙◌}
 use Rattle.std.proofs.lemmas.Option.{same_Some}
 use Rattle.mesh_table.specs.declared.key.Key.{Key}
 use Rattle.mesh_table.specs.declared.ring.Record.{Record}
-use Rattle.mesh_table.specs.Probing.{Slot, holding, filled, Misses, Foreign}
+use Rattle.mesh_table.specs.Probing.{Slot, holding, filled, Foreign}
+
+-- The slot does not have this key.
+abbrev pub Misses : {V : Type 0} → Slot V → Key → Type 0
+Misses {V} s k = (v : V) → s ≢ holding k v
 
 pub empty_full : {V : Type 0} (s : Slot V) (k : Key) (v : V) → s ≡ None → s ≡ holding k v → ⊥
 empty_full s k v p q = cc

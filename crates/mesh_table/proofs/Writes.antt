@@ -3,10 +3,10 @@ use Rattle.std.proofs.Common.{◌≡◌, ℕ, ◌+◌, ◌<◌, cond, List, leng
 use Rattle.std.proofs.lemmas.List.{get_or-set_same}
 use Rattle.std.proofs.lemmas.Bool.{cases_eq}
 use Rattle.mesh_table.specs.declared.key.Key.{Key}
-use Rattle.mesh_table.specs.Probing.{Slot, holding, slot_at, slot_ahead, home_slot, filled, size, lookup, Misses, Distinct, Reached, Has, Sound, Holed, Alike, Becomes, EndsAt, Cut}
+use Rattle.mesh_table.specs.Probing.{Slot, holding, slot_at, slot_ahead, home_slot, filled, size, lookup, Distinct, Reached, Has, Sound, Holed, Alike, Becomes, EndsAt, Cut}
 use Rattle.mesh_table.proofs.Steps.{ahead_onto, ahead_below, ahead_same, home_below}
 use Rattle.mesh_table.proofs.Absent.{vacant_misses}
-use Rattle.mesh_table.proofs.SlotCases.{empty_full, full_key, empty_misses, full_misses, foreign_full}
+use Rattle.mesh_table.proofs.SlotCases.{Misses, empty_full, full_key, empty_misses, full_misses, foreign_full}
 use Rattle.mesh_table.proofs.Finite.{full_inside, lookup_here, lookup_none, lookup_set_miss, size_set, slot_none, was, distinct_two}
 
 pub distinct_none : {V : Type 0} (n : ℕ) → Distinct (replicate {A = Slot V} n None)

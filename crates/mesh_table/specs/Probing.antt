@@ -56,9 +56,6 @@ steps_between n h i = cond (nat_lt i h) (i + n - h) (i - h)
 unfoldable pub home_slot : ℕ → Key → ℕ
 home_slot n k = spread k * n / 2 ^ 32
 
-abbrev pub Misses : {V : Type 0} → Slot V → Key → Type 0
-Misses {V} s k = (v : V) → s ≢ holding k v
-
 -- A key that stands in two slots.
 abbrev pub Twice : {V : Type 0} → List (Slot V) → Type 0
 Twice {V} ss =
