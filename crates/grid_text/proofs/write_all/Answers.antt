@@ -1,4 +1,3 @@
-use Rattle.mesh_stream.specs.Meaning.{unclosed}
 use Rattle.mesh_listing.proofs.Printing.{printed_then, printed_one}
 use Rattle.grid_text.specs.GridText.{text_of}
 use Rattle.grid_text.proofs.write_all.Goals as goal
