@@ -1,5 +1,5 @@
 -- How a border edge is shown.
-pub mod Shown
+pub mod ShownEdges
 -- The border list of a list of events.
 pub mod Bordering
 pub mod Examples

@@ -1,5 +1,5 @@
 ghost use Rattle.std.specs.Prelude.{Some as Known};
-ghost use Rattle.mesh_edges.specs.Shown.{edge_text};
+ghost use Rattle.mesh_edges.specs.ShownEdges.{edge_text};
 
 use std::fmt;
 

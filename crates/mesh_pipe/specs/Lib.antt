@@ -29,7 +29,8 @@ pub use Rattle.mesh_rules.specs.Piling
 pub use Rattle.mesh_layer.specs.Layering
 pub use Rattle.mesh_layer.specs.Law
 pub use Rattle.mesh_layer.specs.Orders
--- The border list.
+-- The border list, and how an edge is shown.
+pub use Rattle.mesh_edges.specs.ShownEdges
 pub use Rattle.mesh_edges.specs.Bordering
 pub use Rattle.mesh_border.specs.BorderLaw
 -- Reports.
@@ -38,3 +39,5 @@ pub use Rattle.mesh_report.specs.Reporting
 pub use Rattle.mesh_report.specs.Spelling
 pub use Rattle.mesh_report.specs.Streaming
 pub use Rattle.mesh_piles.specs.Texts
+-- Listings.
+pub use Rattle.mesh_listing.specs.Lines

@@ -31,6 +31,9 @@ pub use mesh_report::report::Report;
 pub use mesh_report::stream_report::StreamReport;
 pub use mesh_report::totals::Totals;
 
+// A text listed line by line.
+pub use mesh_listing::list::list_text;
+
 // The types of the layers, and what a layer of one's own is made of.
 pub use mesh_border::border::Border;
 pub use mesh_filters::check::Check;
