@@ -1,2 +1,4 @@
 mod Answering
-mod Pieces
+mod Readers
+mod Runs
+mod Unread

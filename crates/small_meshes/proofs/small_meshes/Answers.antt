@@ -1,7 +1,7 @@
 use Rattle.std.proofs.Common.{refl}
 use Rattle.mesh_report.specs.Areas.{rectangle}
 use Rattle.mesh_report.specs.Spelling.{spelled, entry, next_number}
-use Rattle.small_meshes.proofs.Pieces.{in_pieces, piece_by_piece}
+use Rattle.small_meshes.proofs.Runs.{in_pieces, piece_by_piece}
 use Rattle.small_meshes.proofs.small_meshes.Goals as goal
 
 pub returns : goal.returns
