@@ -23,9 +23,12 @@ pub new_keeps_none : (r : TextReader) → reader_port r ≡ open_for 4096 → le
 new_keeps_none r e = none_kept r.closed (kept r) e
 
 -- Where the piece fits into the room, all of it is taken, and kept.
-module _ (r s : TextReader) (piece : List ℕ) (k : ℕ) (step : Step (view_of r) (feeds piece (Ok k)) (view_of s)) (fits : length (kept r) + length piece ≤ 4096) where
+module _ (r s : TextReader) (piece : List ℕ) (k : ℕ) (step : Step (view_of r) (feeds piece (Ok k)) (view_of s))
+    (fits : length (kept r) + length piece ≤ 4096) where
   all_taken : k ≡ length piece
-  all_taken = let free : room (reader_port r) ≡ 4096 - length (kept r) = open_room r.closed (kept r) step.was_open in omega (arith, step.count)
+  all_taken =
+      let free : room (reader_port r) ≡ 4096 - length (kept r) = open_room r.closed (kept r) step.was_open in
+      omega (arith, step.count)
 
   pub fed_whole : Step (view_of r) (feeds piece (Ok (length piece))) (view_of s)
   fed_whole = subst (λ (n : ℕ). Step (view_of r) (feeds piece (Ok n)) (view_of s)) all_taken step

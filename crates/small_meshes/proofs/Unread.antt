@@ -38,4 +38,6 @@ unread_at_most m p n bytes =
     (pieces_at_most m p n (pieces line_end bytes))
 
 pub keeps_no_more : (r s : TextReader) → kept s ≡ leaves r → length (kept s) ≤ length (kept r)
-keeps_no_more r s e = subst (λ (bytes : List ℕ). length bytes ≤ length (kept r)) (sym e) (unread_at_most (mark_at r.closed) r.next.line r.next.vertex (kept r))
+keeps_no_more r s e =
+    subst (λ (bytes : List ℕ). length bytes ≤ length (kept r)) (sym e)
+    (unread_at_most (mark_at r.closed) r.next.line r.next.vertex (kept r))

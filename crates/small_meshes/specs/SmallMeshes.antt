@@ -1,5 +1,5 @@
 -- Small meshes, and what is made of them: by the definitions that the contracts of the calls name.
-use Rattle.std.specs.Prelude.{◌≡◌, ℕ, true, List, [], ◌∷◌, ◌++◌, replicate, pos, codes, Ok, Err, Result}
+use Rattle.std.specs.Prelude.{◌≡◌, ℕ, true, false, List, [], ◌∷◌, ◌++◌, length, replicate, pos, codes, Ok, Err, Result}
 use Rattle.mesh_stream.specs.declared.event.Point.{Point}
 use Rattle.mesh_stream.specs.declared.event.Event.{Event}
 use Rattle.mesh_stream.specs.declared.event.Event.TheVariants.{Vertex, Triangle, Finalization}
@@ -7,10 +7,12 @@ use Rattle.mesh_stream.specs.declared.fault.Cause.TheVariants.{LineTooLong, Corn
 use Rattle.mesh_stream.specs.declared.fault.LayerName.TheVariants.{Reader, Check}
 use Rattle.mesh_stream.specs.declared.stage.Standing.{Standing}
 use Rattle.mesh_stream.specs.declared.stage.Standing.TheVariants.{Waiting, Ended}
+use Rattle.mesh_stream.specs.Lists.{has}
 use Rattle.mesh_stream.specs.Meaning.{Mark, unclosed, closed, Outcome, outcome, open_for}
 use Rattle.mesh_stream.specs.Runs.{View, Call, feeds, asks, Run}
 use Rattle.mesh_judge.specs.Accepting.{fault}
-use Rattle.mesh_reader.specs.Reading.{reading}
+use Rattle.mesh_reader.specs.Text.{words}
+use Rattle.mesh_reader.specs.Reading.{by_words, and_on, at_end, reading}
 use Rattle.mesh_bottoms.specs.Gridding.{grid_allowed, grid}
 use Rattle.mesh_regions.specs.Boxes.{box_allowed, in_box}
 use Rattle.mesh_rules.specs.Piling.{checks, clips, renumbers, through, pile}
@@ -72,9 +74,9 @@ pub record SmallMeshes : Type 0 where
   -- then finds that vertex 1, of place 1, is left live.
   pub unfinished_open : checked (codes "v 1 2 3") unclosed ≡ outcome [] Waiting
   pub unfinished_closed : checked (codes "v 1 2 3") closed ≡ outcome (Vertex 1 1 (at 1 2 3) ∷ []) (fault Check LeftLive 1)
-  -- A text in three pieces. A new reader that took them all gives what it gives for the joined text: vertex 1, then its finalization, and
-  -- then it waits.
-  pub joined : reading (codes "v 1 2 3\nx 1\n") unclosed ≡ outcome (Vertex 1 1 (at 1 2 3) ∷ Finalization 2 1 ∷ []) Waiting
+  -- A text in three pieces, which joined are the lines `v 1 2 3` and `x 1`. A new reader that took the pieces answers as the joined text is
+  -- read: vertex 1, then its finalization, and then it waits.
+  pub joined : reading (piece_1 ++ (piece_2 ++ piece_3)) unclosed ≡ outcome (Vertex 1 1 (at 1 2 3) ∷ Finalization 2 1 ∷ []) Waiting
   pub in_pieces : Answers asked_at_the_end (Ok (Vertex 1 1 (at 1 2 3))) (Ok (Finalization 2 1)) (Err Waiting)
   -- Asked after each piece, it waits first, and gives the vertex and then the finalization as soon as their lines are there.
   pub piece_by_piece : Answers asked_between (Err Waiting) (Ok (Vertex 1 1 (at 1 2 3))) (Ok (Finalization 2 1))
@@ -96,10 +98,12 @@ pub record SmallMeshes : Type 0 where
       ≡ outcome (Vertex 1 1 (at 0 0 0) ∷ Finalization 2 1 ∷ []) (fault Check CornerNotLive 3)
   pub not_live_report : report_on (codes "v 0 0 0\nx 1\nf 1 1 1\n")
       ≡ codes "vertices 0\ntriangles 0\nfinalized 0\nwidth 0\narea 0\nfault check 10 3\n"
-  -- 127 bytes and a line end are a line: here a finalization, with blanks behind it. 128 bytes without a line end are at fault, though the
-  -- text is open.
-  pub longest_line : reading (codes "x 1" ++ (replicate 124 32 ++ (10 ∷ []))) unclosed ≡ outcome (Finalization 1 1 ∷ []) Waiting
-  pub too_long : reading (codes "x 1" ++ replicate 125 32) unclosed ≡ outcome [] (fault Reader LineTooLong 1)
+  -- 127 bytes and a line end are a line: it holds what its words say, here a finalization with blanks behind it. 128 bytes without a line
+  -- end are at fault, though the text is open.
+  pub longest_line : (line : List ℕ) (m : Mark) → length line ≡ 127 → has 10 line ≡ false
+      → reading (line ++ (10 ∷ [])) m ≡ and_on 1 1 (by_words 1 1 (words line)) (λ next. outcome [] (at_end m))
+  pub longest_finalization : reading (codes "x 1" ++ (replicate 124 32 ++ (10 ∷ []))) unclosed ≡ outcome (Finalization 1 1 ∷ []) Waiting
+  pub too_long : (line : List ℕ) → length line ≡ 128 → has 10 line ≡ false → reading line unclosed ≡ outcome [] (fault Reader LineTooLong 1)
   -- A tile of two triangles and four vertices. The report counts neither the triangle that names a corner twice nor the vertex that no
   -- triangle names.
   pub tile_report : report_on (codes "# tile\nv 0 0 0\nv 10 0 0\nv 10 10 0\nv 5 5 5\nf 1 2 3\nf 1 1 2\nx 1\nx 2\nx 3\nx 4\n")

@@ -1,4 +1,5 @@
-// A text reader that gets a short text in three pieces, which end inside of words and lines.
+// A text reader that gets a short text in three pieces, which end inside of words and lines. That these calls succeed shows that there
+// are lists of calls as the record SmallMeshes speaks of.
 ghost use Rattle.std.specs.Prelude.{◌≡◌, [], ◌∷◌, Ok as Fine, Err as Not};
 ghost use Rattle.mesh_stream.specs.declared.event.Event.TheVariants.{Vertex, Finalization};
 ghost use Rattle.mesh_stream.specs.declared.stage.Standing.TheVariants.{Waiting};

@@ -1,6 +1,7 @@
 use Rattle.std.proofs.Common.{refl}
 use Rattle.mesh_report.specs.Areas.{rectangle}
 use Rattle.mesh_report.specs.Spelling.{spelled, entry, next_number}
+use Rattle.small_meshes.proofs.Lines.{longest_line, too_long}
 use Rattle.small_meshes.proofs.Runs.{in_pieces, piece_by_piece}
 use Rattle.small_meshes.proofs.small_meshes.Goals as goal
 
@@ -21,7 +22,8 @@ returns c = record {
   grid_clipped = refl;
   not_live = refl;
   not_live_report = refl;
-  longest_line = refl;
-  too_long = refl;
+  longest_line = longest_line;
+  longest_finalization = refl;
+  too_long = too_long;
   tile_report = refl;
 }

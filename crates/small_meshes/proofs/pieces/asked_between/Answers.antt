@@ -26,6 +26,17 @@ returns c =
     let s2 = fed_whole r2 r3 piece_2 _ f2.rule (omega arith) in
     let s3 = fed_whole r4 r5 piece_3 _ f3.rule (omega arith) in
     let a = piece_by_piece (view_of r0) (view_of r6) c.next-first.result c.next-second.result c.next-third.result
-    (record { port = c.new-reader.ensures.port; means = c.new-reader.ensures.means })
-    (view_of r1, s1, (view_of r2, c.next-first.ensures.rule, (view_of r3, s2, (view_of r4, c.next-second.ensures.rule, (view_of r5, s3, (view_of r6, c.next-third.ensures.rule, refl)))))) in
+    (record { port = c.new-reader.ensures.port; means = c.new-reader.ensures.means }) (
+      view_of r1,
+      s1,
+      (
+        view_of r2,
+        c.next-first.ensures.rule,
+        (
+          view_of r3,
+          s2,
+          (view_of r4, c.next-second.ensures.rule, (view_of r5, s3, (view_of r6, c.next-third.ensures.rule, refl))),
+        ),
+      ),
+    ) in
     cc (a.0, a.1, a.2)
