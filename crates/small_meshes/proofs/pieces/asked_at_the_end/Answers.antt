@@ -22,18 +22,11 @@ returns c =
     let s1 = fed_whole r0 r1 piece_1 _ f1.rule (omega arith) in
     let s2 = fed_whole r1 r2 piece_2 _ f2.rule (omega arith) in
     let s3 = fed_whole r2 r3 piece_3 _ f3.rule (omega arith) in
+    let t1 = c.next.ensures.rule in
+    let t2 = c.next-2.ensures.rule in
+    let t3 = c.next-3.ensures.rule in
+    let made = c.new-reader.ensures in
     let a = in_pieces (view_of r0) (view_of r6) c.next.result c.next-2.result c.next-3.result
-    (record { port = c.new-reader.ensures.port; means = c.new-reader.ensures.means }) (
-      view_of r1,
-      s1,
-      (
-        view_of r2,
-        s2,
-        (
-          view_of r3,
-          s3,
-          (view_of r4, c.next.ensures.rule, (view_of r5, c.next-2.ensures.rule, (view_of r6, c.next-3.ensures.rule, refl))),
-        ),
-      ),
-    ) in
+    (record { port = made.port; means = made.means })
+    (view_of r1, s1, (view_of r2, s2, (view_of r3, s3, (view_of r4, t1, (view_of r5, t2, (view_of r6, t3, refl)))))) in
     cc (a.0, a.1, a.2)

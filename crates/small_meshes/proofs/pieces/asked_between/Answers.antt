@@ -25,18 +25,11 @@ returns c =
     let s1 = fed_whole r0 r1 piece_1 _ f1.rule (omega arith) in
     let s2 = fed_whole r2 r3 piece_2 _ f2.rule (omega arith) in
     let s3 = fed_whole r4 r5 piece_3 _ f3.rule (omega arith) in
+    let t1 = c.next-first.ensures.rule in
+    let t2 = c.next-second.ensures.rule in
+    let t3 = c.next-third.ensures.rule in
+    let made = c.new-reader.ensures in
     let a = piece_by_piece (view_of r0) (view_of r6) c.next-first.result c.next-second.result c.next-third.result
-    (record { port = c.new-reader.ensures.port; means = c.new-reader.ensures.means }) (
-      view_of r1,
-      s1,
-      (
-        view_of r2,
-        c.next-first.ensures.rule,
-        (
-          view_of r3,
-          s2,
-          (view_of r4, c.next-second.ensures.rule, (view_of r5, s3, (view_of r6, c.next-third.ensures.rule, refl))),
-        ),
-      ),
-    ) in
+    (record { port = made.port; means = made.means })
+    (view_of r1, s1, (view_of r2, t1, (view_of r3, s2, (view_of r4, t2, (view_of r5, s3, (view_of r6, t3, refl)))))) in
     cc (a.0, a.1, a.2)
