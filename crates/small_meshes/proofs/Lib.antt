@@ -1,0 +1,5 @@
+mod Answering
+mod Lines
+mod Readers
+mod Runs
+mod Unread
