@@ -18,7 +18,8 @@ fn print_border<R: Read, W: Write>(input: &mut R, out: &mut W) -> anyhow::Result
     ensures { IfSome (R.Read.remaining input.old) (λ text. OnOk result
         (Appends (W.Write.contents out.old) (W.Write.contents out.new) (listing edge_text (text_border text)))) }
 {
-    list_text(input, border_list(check(TextReader::new())), out)?;
+    let mut border = border_list(check(TextReader::new()));
+    list_text(input, &mut border, out)?;
     Ok(())
 }
 

@@ -17,7 +17,8 @@ fn print_events<R: Read, W: Write>(input: &mut R, out: &mut W) -> anyhow::Result
     ensures { IfSome (R.Read.remaining input.old) (λ text. OnOk result
         (Appends (W.Write.contents out.old) (W.Write.contents out.new) (listing event_text (reading text closed)))) }
 {
-    list_text(input, TextReader::new(), out)?;
+    let mut reader = TextReader::new();
+    list_text(input, &mut reader, out)?;
     Ok(())
 }
 

@@ -22,18 +22,18 @@ enum Listed {
 
 // Prints what the stage means of the whole text that the input gives. It reads no further than where the stage ends or is at fault. The
 // loop has a bound since an input may go on for ever; no text is so long that it takes 2^64 - 1 reads.
-fn list_until_end<I: Display + Drop, R: Read, S: Inlet<Item = I> + Drop, W: Write>(
+fn list_until_end<I: Display + Drop, R: Read, S: Inlet<Item = I>, W: Write>(
     input: &mut R,
-    mut stage: S,
+    stage: &mut S,
     out: &mut W,
 ) -> io::Result<Listed>
     ensures { IfShown I.output (λ shown. IfSome (R.Read.remaining input.old) (λ text. IfOk result
-        (ListedAs shown text (S.Stage.meaning stage text closed) (W.Write.contents out.old) (W.Write.contents out.new)))) }
+        (ListedAs shown text (S.Stage.meaning stage.old text closed) (W.Write.contents out.old) (W.Write.contents out.new)))) }
 {
     let mut piece = [0; PIECE];
     for _ in 0..u64::MAX {
-        match print_items(&mut stage, out)? {
-            Standing::Waiting => pass_text(input, &mut stage, &mut piece)?,
+        match print_items(stage, out)? {
+            Standing::Waiting => pass_text(input, stage, &mut piece)?,
             standing => {
                 print_standing(standing, out)?;
                 return Ok(Listed::Whole);
@@ -45,13 +45,13 @@ fn list_until_end<I: Display + Drop, R: Read, S: Inlet<Item = I> + Drop, W: Writ
 
 // Prints a line for each item that the stage means of the whole text that the input gives, and last one for how it stands then. No item
 // waits for text that comes later. A text that does not end is an error.
-pub fn list_text<I: Display + Drop, R: Read, S: Inlet<Item = I> + Drop, W: Write>(
+pub fn list_text<I: Display + Drop, R: Read, S: Inlet<Item = I>, W: Write>(
     input: &mut R,
-    stage: S,
+    stage: &mut S,
     out: &mut W,
 ) -> io::Result<()>
     ensures { IfShown I.output (λ shown. IfSome (R.Read.remaining input.old) (λ text. OnOk result
-        (Appends (W.Write.contents out.old) (W.Write.contents out.new) (listing shown (S.Stage.meaning stage text closed))))) }
+        (Appends (W.Write.contents out.old) (W.Write.contents out.new) (listing shown (S.Stage.meaning stage.old text closed))))) }
 {
     match list_until_end(input, stage, out)? {
         Listed::Whole => Ok(()),

@@ -10,5 +10,5 @@ pub returns : goal.returns
 returns g c =
     same_listing edge_text _ _ _ _ _ (λ t.
     let checked = c.check.ensures.by_rule t closed ∙ ap (through 1024 checks) (c.new.ensures.means t closed) in
-    c.border_list.ensures.by_definition t closed ∙ ap (bordered 1024 4096) checked)
+    c.border_list-border.ensures.by_definition t closed ∙ ap (bordered 1024 4096) checked)
     (c.in_ok-list_text.ensures edge_text (λ e. refl))

@@ -6,4 +6,4 @@ use Rattle.events.proofs.print_events.Goals as goal
 
 pub returns : goal.returns
 returns g c =
-    same_listing event_text _ _ _ _ _ (λ t. c.new.ensures.means t closed) (c.in_ok-list_text.ensures event_text (λ e. refl))
+    same_listing event_text _ _ _ _ _ (λ t. c.new-reader.ensures.means t closed) (c.in_ok-list_text.ensures event_text (λ e. refl))
