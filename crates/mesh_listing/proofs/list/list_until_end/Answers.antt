@@ -7,7 +7,8 @@ pub loop-preserved : goal.loop-preserved
 loop-preserved g c = record {
   piece = omega arith;
   so_far = λ shown shows. pass_more shown _ _ _ _ _ _ _ _ _
-      (print_more shown _ _ _ _ _ _ _ _ (c.loop.invariant.so_far shown shows) (c.in_ok-standing.ensures.printed shown shows)) c.in_ok-pass_text-in-Waiting.ensures.passed;
+      (print_more shown _ _ _ _ _ _ _ _ (c.loop.invariant.so_far shown shows) (c.in_ok-standing.ensures.printed shown shows))
+      c.in_ok-pass_text-in-Waiting.ensures.passed;
   turns = turn_more _ _ _ _ _ _ _ _ _ _ c.loop.invariant.turns c.in_ok-standing.ensures.port_kept (g.S.Stage.lawful c.print_items.new.stage)
       c.in_ok-standing.ensures.none_left c.in-Waiting.is c.in_ok-pass_text-in-Waiting.ensures.passed;
 }
