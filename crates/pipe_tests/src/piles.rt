@@ -1,0 +1,66 @@
+// Orders worked off on a pile, layers put on a pile at work, and faults that pass through many layers.
+use crate::common::{check_tells, closed_with, open_with, vertex};
+use mesh_pipe::{
+    Cause, HalfSpace, Inlet, LayerName, Order, Refusal, Reply, Stage, Standing, TextReader, check,
+    clean, clip, compact, renumber, work_off,
+};
+use std::test::Fail;
+
+// A log may be longer than the orders, and then its last entry stays as it is, or shorter, and then the last order is not worked off.
+#[test]
+fn orders_and_logs(rt: HostRuntime) {
+    let orders = [
+        Order::Next,
+        Order::Feed(b"x 1\nx 1"),
+        Order::Next,
+        Order::Close,
+    ];
+    let fault = Standing::faulty(LayerName::Check, Cause::NotLive, 1);
+    let empty = Reply::Fed(Ok(99));
+    let replies = [
+        Reply::Gave(Err(Standing::Waiting)),
+        Reply::Fed(Ok(7)),
+        Reply::Gave(Err(fault)),
+        Reply::Closed(Ok(())),
+        empty,
+    ];
+    let mut pile = check(TextReader::new());
+    let mut log = [empty; 5];
+    assert_eq!(rt; work_off(&mut pile, &orders, &mut log), 4);
+    assert_eq!(rt; log, replies);
+    assert_eq!(rt; pile.close(), Err(Refusal::InletClosed));
+    let mut pile = check(TextReader::new());
+    let mut log = [empty; 3];
+    assert_eq!(rt; work_off(&mut pile, &orders, &mut log), 3);
+    assert_eq!(rt; log.as_slice(), &replies[0..3]);
+    assert_eq!(rt; pile.close(), Ok(()));
+}
+
+// The layer that is put on judges and numbers only what is still to come: vertex 1 was handed over before.
+#[test]
+fn a_layer_on_a_pile_at_work(rt: HostRuntime) -> Result<(), Fail> {
+    let mut pile = check(open_with(&rt, b"v 0 0 0\nv 5 5 5\nx 2\n")?);
+    assert_eq!(rt; pile.next(), Ok(vertex(1).placed_at(1)));
+    let mut pile = renumber(pile);
+    check_tells(&rt, rt.alloc(), &mut pile, "v 1 5 5 5 @2, x 1 @3, waiting")?;
+    assert_eq!(rt; pile.feed(b"x 1\n")?, 4);
+    check_tells(&rt, rt.alloc(), &mut pile, "fault renumber 11 4")
+}
+
+// The reader names the first fault, and the lowest layer the others.
+const FAULTS: [(&[u8], &str); 3] = [
+    (b"v 0 0 0\nv 1 2\nx 3\n", "fault reader 4 2"),
+    (b"v 0 0 0\nf 1 1 2\nx 4\n", "fault check 10 2"),
+    (b"#\nv 0 0 0\nv 1 0 0\nx 1\n", "fault check 12 3"),
+];
+
+#[test]
+fn faults_pass_through_five_layers(rt: HostRuntime) -> Result<(), Fail> {
+    for (text, fault) in FAULTS {
+        let everywhere = HalfSpace::new(0, 0, 0, 0)?;
+        let cleaned = clean(check(closed_with(&rt, text)?));
+        let mut pile = renumber(compact(clip(cleaned, everywhere)));
+        check_tells(&rt, rt.alloc(), &mut pile, fault)?;
+    }
+    Ok(())
+}
