@@ -35,7 +35,11 @@ where
 }
 
 // Answers the calls that any stage answers.
-fn ask<S: Stage + Drop>(stage: &mut S, call: Call, answers: &mut Vec<Answer>) -> Result<(), AllocError>
+fn ask<S: Stage + Drop>(
+    stage: &mut S,
+    call: Call,
+    answers: &mut Vec<Answer>,
+) -> Result<(), AllocError>
 where
     S::Item: Into<Item>,
 {
@@ -85,7 +89,12 @@ fn spelled(alloc: Global, report: &Report, length: usize) -> Result<Answer, Allo
 }
 
 // Feeds the next bytes of the text and counts those taken, or closes.
-fn feed_or_close<S: Inlet + Drop>(stage: &mut S, call: Call, text: &[u8], taken: &mut usize) -> Option<Answer> {
+fn feed_or_close<S: Inlet + Drop>(
+    stage: &mut S,
+    call: Call,
+    text: &[u8],
+    taken: &mut usize,
+) -> Option<Answer> {
     match call {
         Call::Feed(length) => Some(match stage.feed(piece(text, *taken, length)) {
             Ok(count) => {
@@ -174,10 +183,30 @@ fn over_text(asking: &Asking<'_>) -> Answers {
 pub fn answers(alloc: Global, case: &Case) -> Answers {
     let rules = case.rules.as_slice();
     match &case.bottom {
-        Bottom::Text(text) => over_text(&Asking { alloc, case, text: text.as_slice() }),
-        Bottom::List(records) => stage(ListStage::new(records.as_slice()), rules, &Asking { alloc, case, text: &[] }),
-        Bottom::Grid { columns, rows, step } => {
-            let asking = Asking { alloc, case, text: &[] };
+        Bottom::Text(text) => over_text(&Asking {
+            alloc,
+            case,
+            text: text.as_slice(),
+        }),
+        Bottom::List(records) => stage(
+            ListStage::new(records.as_slice()),
+            rules,
+            &Asking {
+                alloc,
+                case,
+                text: &[],
+            },
+        ),
+        Bottom::Grid {
+            columns,
+            rows,
+            step,
+        } => {
+            let asking = Asking {
+                alloc,
+                case,
+                text: &[],
+            };
             match Grid::new(*columns, *rows, *step) {
                 Ok(grid) => stage(grid, rules, &asking),
                 Err(refusal) => refused(&asking, refusal),

@@ -1,10 +1,13 @@
 // Piles of layers over each bottom, and what stands on top.
 use crate::answer::Answer;
 use crate::case::{Case, Rule, Top};
-use crate::library::answers::{Asking, inlet_answers, inlet_report, refused, stage_answers, stage_report};
+use crate::library::answers::{
+    Asking, inlet_answers, inlet_report, refused, stage_answers, stage_report,
+};
+use crate::library::layers::{
+    put_border, put_check, put_clean, put_clip, put_compact, put_renumber,
+};
 use crate::library::region::AnyRegion;
-use mesh_border::border_list::border_list;
-use mesh_piles::pile::{check, clean, clip, compact, renumber};
 use mesh_stream::event::Event;
 use mesh_stream::stage::{Inlet, Stage};
 use std::alloc::{AllocError, Global};
@@ -15,68 +18,126 @@ pub type Answers = Result<Vec<Answer>, AllocError>;
 macro_rules! put_layer {
     ($below:ident, $rule:ident, $above:ident, $asking:ident, $next:ident) => {
         match *$rule {
-            Rule::Check => $next(check($below), $above, $asking),
-            Rule::Clean => $next(clean($below), $above, $asking),
+            Rule::Check => $next(put_check($asking.alloc, $below)?, $above, $asking),
+            Rule::Clean => $next(put_clean($asking.alloc, $below)?, $above, $asking),
             Rule::Clip(region) => match AnyRegion::new(region) {
-                Ok(region) => $next(clip($below, region), $above, $asking),
+                Ok(region) => $next(put_clip($asking.alloc, $below, region)?, $above, $asking),
                 Err(refusal) => refused($asking, refusal),
             },
-            Rule::Compact => $next(compact($below), $above, $asking),
-            Rule::Renumber => $next(renumber($below), $above, $asking),
+            Rule::Compact => $next(put_compact($asking.alloc, $below)?, $above, $asking),
+            Rule::Renumber => $next(put_renumber($asking.alloc, $below)?, $above, $asking),
         }
     };
 }
 
-fn top_of_inlet<S: Inlet<Item = Event> + Drop>(below: S, asking: &Asking<'_>) -> Answers {
+// Puts all five layers on what is below, in one of two orders.
+macro_rules! put_five {
+    ($below:ident, $rules:ident, $asking:ident, $top:ident) => {{
+        let alloc = $asking.alloc;
+        match *$rules {
+            [Rule::Check, Rule::Clean, Rule::Clip(region), Rule::Compact, Rule::Renumber] => match AnyRegion::new(region) {
+                Ok(region) => {
+                    let pile = put_clip(alloc, put_clean(alloc, put_check(alloc, $below)?)?, region)?;
+                    $top(put_renumber(alloc, put_compact(alloc, pile)?)?, &[], $asking)
+                }
+                Err(refusal) => refused($asking, refusal),
+            },
+            [Rule::Renumber, Rule::Compact, Rule::Clip(region), Rule::Clean, Rule::Check] => match AnyRegion::new(region) {
+                Ok(region) => {
+                    let pile = put_clip(alloc, put_compact(alloc, put_renumber(alloc, $below)?)?, region)?;
+                    $top(put_check(alloc, put_clean(alloc, pile)?)?, &[], $asking)
+                }
+                Err(refusal) => refused($asking, refusal),
+            },
+            _ => Ok(Vec::new(alloc)),
+        }
+    }};
+}
+
+fn top_of_inlet<S: Inlet<Item = Event> + Drop>(
+    below: S,
+    _above: &[Rule],
+    asking: &Asking<'_>,
+) -> Answers {
     match asking.case.top {
         Top::Events => inlet_answers(below, asking),
-        Top::Border => inlet_answers(border_list(below), asking),
+        Top::Border => inlet_answers(put_border(asking.alloc, below)?, asking),
         Top::Report | Top::Stream => inlet_report(below, asking),
     }
 }
 
-fn inlet_of_two<S: Inlet<Item = Event> + Drop>(below: S, _above: &[Rule], asking: &Asking<'_>) -> Answers {
-    top_of_inlet(below, asking)
-}
-
-fn inlet_of_one<S: Inlet<Item = Event> + Drop>(below: S, rules: &[Rule], asking: &Asking<'_>) -> Answers {
+fn inlet_of_one<S: Inlet<Item = Event> + Drop>(
+    below: S,
+    rules: &[Rule],
+    asking: &Asking<'_>,
+) -> Answers {
     match rules {
-        [] => top_of_inlet(below, asking),
-        [rule, above @ ..] => put_layer!(below, rule, above, asking, inlet_of_two),
+        [] => top_of_inlet(below, rules, asking),
+        [rule, above @ ..] => put_layer!(below, rule, above, asking, top_of_inlet),
     }
 }
 
-// The answers of a pile over an inlet.
-pub fn inlet<S: Inlet<Item = Event> + Drop>(below: S, rules: &[Rule], asking: &Asking<'_>) -> Answers {
+fn inlet_of_five<S: Inlet<Item = Event> + Drop>(
+    below: S,
+    rules: &[Rule],
+    asking: &Asking<'_>,
+) -> Answers {
+    put_five!(below, rules, asking, top_of_inlet)
+}
+
+// The answers of a pile over an inlet: of at most two layers, or of five.
+pub fn inlet<S: Inlet<Item = Event> + Drop>(
+    below: S,
+    rules: &[Rule],
+    asking: &Asking<'_>,
+) -> Answers {
     match rules {
-        [] => top_of_inlet(below, asking),
+        [] => top_of_inlet(below, rules, asking),
+        _ if rules.len() > 2 => inlet_of_five(below, rules, asking),
         [rule, above @ ..] => put_layer!(below, rule, above, asking, inlet_of_one),
     }
 }
 
-fn top_of_stage<S: Stage<Item = Event> + Drop>(below: S, asking: &Asking<'_>) -> Answers {
+fn top_of_stage<S: Stage<Item = Event> + Drop>(
+    below: S,
+    _above: &[Rule],
+    asking: &Asking<'_>,
+) -> Answers {
     match asking.case.top {
         Top::Events => stage_answers(below, asking),
-        Top::Border => stage_answers(border_list(below), asking),
+        Top::Border => stage_answers(put_border(asking.alloc, below)?, asking),
         Top::Report | Top::Stream => stage_report(below, asking),
     }
 }
 
-fn stage_of_two<S: Stage<Item = Event> + Drop>(below: S, _above: &[Rule], asking: &Asking<'_>) -> Answers {
-    top_of_stage(below, asking)
-}
-
-fn stage_of_one<S: Stage<Item = Event> + Drop>(below: S, rules: &[Rule], asking: &Asking<'_>) -> Answers {
+fn stage_of_one<S: Stage<Item = Event> + Drop>(
+    below: S,
+    rules: &[Rule],
+    asking: &Asking<'_>,
+) -> Answers {
     match rules {
-        [] => top_of_stage(below, asking),
-        [rule, above @ ..] => put_layer!(below, rule, above, asking, stage_of_two),
+        [] => top_of_stage(below, rules, asking),
+        [rule, above @ ..] => put_layer!(below, rule, above, asking, top_of_stage),
     }
 }
 
-// The answers of a pile over a stage that takes no text.
-pub fn stage<S: Stage<Item = Event> + Drop>(below: S, rules: &[Rule], asking: &Asking<'_>) -> Answers {
+fn stage_of_five<S: Stage<Item = Event> + Drop>(
+    below: S,
+    rules: &[Rule],
+    asking: &Asking<'_>,
+) -> Answers {
+    put_five!(below, rules, asking, top_of_stage)
+}
+
+// The answers of a pile over a stage that takes no text: of at most two layers, or of five.
+pub fn stage<S: Stage<Item = Event> + Drop>(
+    below: S,
+    rules: &[Rule],
+    asking: &Asking<'_>,
+) -> Answers {
     match rules {
-        [] => top_of_stage(below, asking),
+        [] => top_of_stage(below, rules, asking),
+        _ if rules.len() > 2 => stage_of_five(below, rules, asking),
         [rule, above @ ..] => put_layer!(below, rule, above, asking, stage_of_one),
     }
 }

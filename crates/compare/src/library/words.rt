@@ -24,11 +24,13 @@ impl From<Standing> for Ends {
         match standing {
             Standing::Waiting => Ends::Waiting,
             Standing::Ended => Ends::Ended,
-            Standing::Faulty(Fault {
-                layer,
-                cause,
-                place,
-            }) => Ends::Faulty {
+            Standing::Faulty(
+                Fault {
+                    layer,
+                    cause,
+                    place,
+                },
+            ) => Ends::Faulty {
                 layer: layer.word(),
                 cause: cause.number(),
                 place,

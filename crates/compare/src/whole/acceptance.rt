@@ -21,7 +21,7 @@ pub fn is_live(before: Events<'_>, sought: u32) -> bool {
 }
 
 // How many vertices are live after accepted events.
-pub fn live_count(before: Events<'_>) -> usize {
+fn live_count(before: Events<'_>) -> usize {
     let introduced = before
         .iter()
         .filter(|given| matches!(given.item, Event::Vertex { .. }))
@@ -44,9 +44,7 @@ fn highest(before: Events<'_>) -> u32 {
 }
 
 fn is_in_range(at: Point) -> bool {
-    [at.x, at.y, at.z]
-        .iter()
-        .all(|coordinate| coordinate.unsigned_abs() <= LARGEST_COORDINATE)
+    [at.x, at.y, at.z].iter().all(|coordinate| coordinate.unsigned_abs() <= LARGEST_COORDINATE)
 }
 
 // Why an event is not accepted after others, if it is not.
@@ -84,7 +82,9 @@ fn accepted(events: Events<'_>) -> (usize, Option<u8>) {
 fn lowest_live(events: Events<'_>) -> Option<u32> {
     events
         .iter()
-        .filter(|given| matches!(given.item, Event::Vertex { number, .. } if is_live(events, number)))
+        .filter(
+            |given| matches!(given.item, Event::Vertex { number, .. } if is_live(events, number)),
+        )
         .map(|given| given.item.place())
         .next()
 }

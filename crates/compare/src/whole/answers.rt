@@ -111,7 +111,9 @@ impl Asked<'_> {
 
     // So many events of the bottom were asked for: the reader dropped the lines of these, or all that it can.
     fn drop_asked(&mut self, asked: usize) {
-        let length = asked.checked_sub(1).and_then(|index| self.reading.lengths.get(index).copied());
+        let length = asked
+            .checked_sub(1)
+            .and_then(|index| self.reading.lengths.get(index).copied());
         self.dropped = self.dropped.max(length.unwrap_or(self.reading.settled));
     }
 
@@ -119,9 +121,13 @@ impl Asked<'_> {
         if self.is_closed {
             return Ok(Answer::Refused(1));
         }
-        let length = piece(text(self.case), self.taken, length).len().min(self.room());
+        let length = piece(text(self.case), self.taken, length)
+            .len()
+            .min(self.room());
         self.taken = self.taken.saturating_add(length);
-        self.refresh()?;
+        if length > 0 {
+            self.refresh()?;
+        }
         Ok(Answer::Taken(length))
     }
 

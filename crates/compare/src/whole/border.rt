@@ -66,11 +66,19 @@ fn too_many(alloc: Global, events: Events<'_>) -> Result<Option<usize>, AllocErr
 }
 
 fn is_single(uses: &[Side], side: &Side) -> bool {
-    uses.iter().filter(|other| is_same_edge(side, other)).count() == 1
+    uses.iter()
+        .filter(|other| is_same_edge(side, other))
+        .count()
+        == 1
 }
 
 // What comes at the finalization of the vertex behind these events: the single open edges at it, by the other end.
-fn at_finalization(alloc: Global, uses: &[Side], before: Events<'_>, vertex: u32) -> Result<Vec<Side>, AllocError> {
+fn at_finalization(
+    alloc: Global,
+    uses: &[Side],
+    before: Events<'_>,
+    vertex: u32,
+) -> Result<Vec<Side>, AllocError> {
     let mut sides = Vec::new(alloc);
     for side in uses {
         if let Some(other) = other_end(side, vertex) {

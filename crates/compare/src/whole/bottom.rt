@@ -28,11 +28,20 @@ fn untexted(alloc: Global, records: &[Event]) -> Result<Reading, AllocError> {
 }
 
 // What a bottom gives that took so many bytes of the text, unless its setting is not allowed.
-pub fn given(alloc: Global, bottom: &Bottom, taken: usize, is_closed: bool) -> Result<Option<Reading>, AllocError> {
+pub fn given(
+    alloc: Global,
+    bottom: &Bottom,
+    taken: usize,
+    is_closed: bool,
+) -> Result<Option<Reading>, AllocError> {
     Ok(match bottom {
         Bottom::Text(text) => Some(read(alloc, piece(text.as_slice(), 0, taken), is_closed)?),
         Bottom::List(records) => Some(untexted(alloc, records.as_slice())?),
-        Bottom::Grid { columns, rows, step } => match grid(alloc, *columns, *rows, *step)? {
+        Bottom::Grid {
+            columns,
+            rows,
+            step,
+        } => match grid(alloc, *columns, *rows, *step)? {
             Some(records) => Some(untexted(alloc, records.as_slice())?),
             None => None,
         },

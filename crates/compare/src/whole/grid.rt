@@ -12,15 +12,29 @@ struct Settings {
 
 impl Settings {
     fn is_allowed(&self) -> bool {
-        let Settings { columns, rows, step } = *self;
-        let fits = |count: u32| count.wrapping_sub(1).checked_mul(step).is_some_and(|extent| extent <= 100_000);
-        (2..=1000).contains(&columns) && (2..=50_000).contains(&rows) && step >= 1 && fits(columns) && fits(rows)
+        let Settings {
+            columns,
+            rows,
+            step,
+        } = *self;
+        let fits = |count: u32| count
+            .wrapping_sub(1)
+            .checked_mul(step)
+            .is_some_and(|extent| extent <= 100_000);
+        (2..=1000).contains(&columns)
+            && (2..=50_000).contains(&rows)
+            && step >= 1
+            && fits(columns)
+            && fits(rows)
     }
 
     fn vertex(&self, row: u32, column: u32) -> Event {
         Event::Vertex {
             place: 0,
-            number: row.wrapping_mul(self.columns).wrapping_add(column).wrapping_add(1),
+            number: row
+                .wrapping_mul(self.columns)
+                .wrapping_add(column)
+                .wrapping_add(1),
             at: Point {
                 x: i32::try_from(column.wrapping_mul(self.step)).unwrap_or(0),
                 y: i32::try_from(row.wrapping_mul(self.step)).unwrap_or(0),
@@ -47,8 +61,18 @@ impl Settings {
         let n = m.wrapping_add(1);
         let q = n.wrapping_sub(self.columns);
         let p = q.wrapping_sub(1);
-        events.push(Event::Triangle { place: 0, a: p, b: q, c: n })?;
-        events.push(Event::Triangle { place: 0, a: p, b: n, c: m })?;
+        events.push(Event::Triangle {
+            place: 0,
+            a: p,
+            b: q,
+            c: n,
+        })?;
+        events.push(Event::Triangle {
+            place: 0,
+            a: p,
+            b: n,
+            c: m,
+        })?;
         for vertex in self.finalized(row, column, [p, q, m, n]) {
             if let Some(vertex) = vertex {
                 events.push(Event::Finalization { place: 0, vertex })?;
@@ -59,8 +83,17 @@ impl Settings {
 }
 
 // All events of a grid, places aside, if its settings are allowed.
-pub fn grid(alloc: Global, columns: u32, rows: u32, step: u32) -> Result<Option<Vec<Event>>, AllocError> {
-    let grid = Settings { columns, rows, step };
+pub fn grid(
+    alloc: Global,
+    columns: u32,
+    rows: u32,
+    step: u32,
+) -> Result<Option<Vec<Event>>, AllocError> {
+    let grid = Settings {
+        columns,
+        rows,
+        step,
+    };
     if !grid.is_allowed() {
         return Ok(None);
     }

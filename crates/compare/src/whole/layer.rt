@@ -44,7 +44,9 @@ pub fn determinant(a: i64, b: i64, c: i64, d: i64) -> i64 {
 fn is_degenerate(a: Point, b: Point, c: Point) -> bool {
     let [ux, uy, uz] = difference(a, b);
     let [vx, vy, vz] = difference(a, c);
-    determinant(uy, uz, vy, vz) == 0 && determinant(uz, ux, vz, vx) == 0 && determinant(ux, uy, vx, vy) == 0
+    determinant(uy, uz, vy, vz) == 0
+        && determinant(uz, ux, vz, vx) == 0
+        && determinant(ux, uy, vx, vy) == 0
 }
 
 // Whether the layer leaves the event in the list.
@@ -55,14 +57,23 @@ fn stays(rule: Rule, events: Events<'_>, event: &Event) -> bool {
         }
         (Rule::Clip(region), Event::Vertex { at, .. }) => is_inside(region, at),
         (Rule::Clip(region), Event::Triangle { a, b, c, .. }) => {
-            [a, b, c].iter().all(|corner| is_inside(region, point(events, *corner)))
+            [a, b, c]
+                .iter()
+                .all(|corner| is_inside(region, point(events, *corner)))
         }
-        (Rule::Clip(region), Event::Finalization { vertex, .. }) => is_inside(region, point(events, vertex)),
+        (Rule::Clip(region), Event::Finalization { vertex, .. }) => is_inside(
+            region,
+            point(events, vertex),
+        ),
         _ => true,
     }
 }
 
-fn filtered(alloc: Global, rule: Rule, events: Events<'_>) -> Result<Vec<Given<Event>>, AllocError> {
+fn filtered(
+    alloc: Global,
+    rule: Rule,
+    events: Events<'_>,
+) -> Result<Vec<Given<Event>>, AllocError> {
     events
         .iter()
         .copied()
@@ -140,7 +151,11 @@ fn moved(events: Events<'_>, sought: u32, asked: usize) -> Option<Given<Event>> 
 }
 
 // Each vertex directly before the first triangle that names it; those that none names are left out.
-fn reordered(alloc: Global, events: Events<'_>, order: &[u32]) -> Result<Vec<Given<Event>>, AllocError> {
+fn reordered(
+    alloc: Global,
+    events: Events<'_>,
+    order: &[u32],
+) -> Result<Vec<Given<Event>>, AllocError> {
     let mut all = Vec::new(alloc);
     let mut brought = 0usize;
     for given in events {
@@ -164,7 +179,11 @@ fn reordered(alloc: Global, events: Events<'_>, order: &[u32]) -> Result<Vec<Giv
 }
 
 // The events with their vertices numbered in this order; what names another vertex is left out.
-fn numbered(alloc: Global, events: Events<'_>, order: &[u32]) -> Result<Vec<Given<Event>>, AllocError> {
+fn numbered(
+    alloc: Global,
+    events: Events<'_>,
+    order: &[u32],
+) -> Result<Vec<Given<Event>>, AllocError> {
     let mut all = Vec::new(alloc);
     for given in events {
         if let Some(item) = renumbered(order, given.item) {
@@ -177,7 +196,11 @@ fn numbered(alloc: Global, events: Events<'_>, order: &[u32]) -> Result<Vec<Give
     Ok(all)
 }
 
-fn rewritten(alloc: Global, rule: Rule, events: Events<'_>) -> Result<Vec<Given<Event>>, AllocError> {
+fn rewritten(
+    alloc: Global,
+    rule: Rule,
+    events: Events<'_>,
+) -> Result<Vec<Given<Event>>, AllocError> {
     match rule {
         Rule::Check | Rule::Clean | Rule::Clip(_) => filtered(alloc, rule, events),
         Rule::Compact => {

@@ -1,7 +1,7 @@
 // The report, by the whole list of the events taken.
 use crate::answer::{Answer, Counts, Ends};
 use crate::case::UNWRITTEN;
-use crate::whole::acceptance::{Events, live_count};
+use crate::whole::acceptance::Events;
 use crate::whole::layer::{determinant, difference, point};
 use mesh_stream::event::Event;
 use std::alloc::{AllocError, Global};
@@ -23,11 +23,16 @@ fn kinds(events: Events<'_>) -> [u32; 3] {
 }
 
 fn width(events: Events<'_>) -> u32 {
-    let mut width = 0usize;
-    for length in 0..=events.len() {
-        width = width.max(live_count(events.get(..length).unwrap_or(&[])));
+    let [mut live, mut width] = [0u32; 2];
+    for given in events {
+        match given.item {
+            Event::Vertex { .. } => live = live.wrapping_add(1),
+            Event::Finalization { .. } => live = live.wrapping_sub(1),
+            Event::Triangle { .. } => {}
+        }
+        width = width.max(live);
     }
-    u32::try_from(width).unwrap_or(u32::MAX)
+    width
 }
 
 fn area(events: Events<'_>) -> i64 {
@@ -56,12 +61,24 @@ pub fn counts(events: Events<'_>) -> Counts {
 
 // The lines of a report.
 pub fn spelled(alloc: Global, counts: &Counts, ends: &Ends) -> Result<Vec<u8>, AllocError> {
-    let Counts { vertices, triangles, finalized, width, area } = *counts;
-    let mut text = format!(in alloc; "vertices {vertices}\ntriangles {triangles}\nfinalized {finalized}\nwidth {width}\narea {area}\n")?;
+    let Counts {
+        vertices,
+        triangles,
+        finalized,
+        width,
+        area,
+    } = *counts;
+    let mut text = format!(in alloc;
+        "vertices {vertices}\ntriangles {triangles}\nfinalized {finalized}\nwidth {width}\narea {area}\n"
+    )?;
     match *ends {
         Ends::Waiting => text.push_str("end open\n")?,
         Ends::Ended => text.push_str("end ok\n")?,
-        Ends::Faulty { layer, cause, place } => writeln!(text, "fault {layer} {cause} {place}")?,
+        Ends::Faulty {
+            layer,
+            cause,
+            place,
+        } => writeln!(text, "fault {layer} {cause} {place}")?,
     }
     Ok(text.into_bytes())
 }

@@ -35,11 +35,13 @@ fn number(digits: &[u8]) -> Result<u32, u8> {
     if !(1..=9).contains(&digits.len()) || !digits.iter().all(|byte| byte.is_ascii_digit()) {
         return Err(5);
     }
-    Ok(digits.iter().fold(0u32, |value, digit| {
-        value
-            .wrapping_mul(10)
-            .wrapping_add(u32::from(digit.wrapping_sub(b'0')))
-    }))
+    Ok(
+        digits.iter().fold(0u32, |value, digit| {
+            value
+                .wrapping_mul(10)
+                .wrapping_add(u32::from(digit.wrapping_sub(b'0')))
+        }),
+    )
 }
 
 fn coordinate(word: &[u8]) -> Result<i32, u8> {
@@ -135,7 +137,12 @@ impl Reading {
     }
 
     // What a line says, its end taken off.
-    fn judge(&self, alloc: Global, place: u32, line: &[u8]) -> Result<Result<Option<Event>, u8>, AllocError> {
+    fn judge(
+        &self,
+        alloc: Global,
+        place: u32,
+        line: &[u8],
+    ) -> Result<Result<Option<Event>, u8>, AllocError> {
         if line.len() > LONGEST_LINE {
             return Ok(Err(2));
         }
@@ -143,7 +150,12 @@ impl Reading {
     }
 
     // Notes what the line says, up to whose end so many bytes lie. Answers whether it is no fault.
-    fn note(&mut self, said: Result<Option<Event>, u8>, place: u32, length: usize) -> Result<bool, AllocError> {
+    fn note(
+        &mut self,
+        said: Result<Option<Event>, u8>,
+        place: u32,
+        length: usize,
+    ) -> Result<bool, AllocError> {
         match said {
             Err(cause) => {
                 self.ends = Ends::Faulty {
