@@ -6,6 +6,7 @@ mod answer;
 mod case;
 mod disagreement;
 mod library;
+mod memory;
 mod random;
 mod tally;
 mod whole;

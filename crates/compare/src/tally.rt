@@ -1,7 +1,8 @@
 // What was compared, by kind.
 use crate::answer::{Answer, Ends, Item};
 use crate::case::{Bottom, Case, Top};
-use std::alloc::{AllocError, Global};
+use crate::memory::Made;
+use std::alloc::Global;
 use std::io;
 
 // How many there were of one kind, which may be told apart by a number.
@@ -50,7 +51,7 @@ impl Tally {
         }
     }
 
-    fn add(&mut self, kind: &'static str, number: Option<u8>, more: u64) -> Result<(), AllocError> {
+    fn add(&mut self, kind: &'static str, number: Option<u8>, more: u64) -> Made<()> {
         for count in self.counts.iter_mut() {
             if count.kind == kind && count.number == number {
                 count.count = count.count.saturating_add(more);
@@ -65,7 +66,7 @@ impl Tally {
         Ok(())
     }
 
-    fn add_answer(&mut self, answer: &Answer) -> Result<(), AllocError> {
+    fn add_answer(&mut self, answer: &Answer) -> Made<()> {
         match answer {
             Answer::Item(Item::Event(_)) => self.add("events", None, 1),
             Answer::Item(Item::Side(_)) => self.add("border edges", None, 1),
@@ -88,7 +89,7 @@ impl Tally {
         }
     }
 
-    fn add_ends(&mut self, ends: Ends) -> Result<(), AllocError> {
+    fn add_ends(&mut self, ends: Ends) -> Made<()> {
         match ends {
             Ends::Waiting => self.add("cases that waited in the end", None, 1),
             Ends::Ended => self.add("cases that ended", None, 1),
@@ -100,7 +101,7 @@ impl Tally {
         }
     }
 
-    fn add_asked(&mut self, case: &Case) -> Result<(), AllocError> {
+    fn add_asked(&mut self, case: &Case) -> Made<()> {
         let bottom = match case.bottom {
             Bottom::Text(_) => "cases on a text",
             Bottom::List(_) => "cases on a list",
@@ -124,7 +125,7 @@ impl Tally {
     }
 
     // Adds a case and the answers to it.
-    pub fn add_case(&mut self, case: &Case, answers: &[Answer]) -> Result<(), AllocError> {
+    pub fn add_case(&mut self, case: &Case, answers: &[Answer]) -> Made<()> {
         self.add_asked(case)?;
         let mut last = None;
         for answer in answers {

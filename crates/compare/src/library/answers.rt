@@ -2,6 +2,7 @@
 use crate::answer::{Answer, Ends, Item};
 use crate::case::{Bottom, Call, Case, MOST_ASKED, Top, UNWRITTEN, piece};
 use crate::library::piles::{Answers, inlet, stage};
+use crate::memory::Made;
 use mesh_bottoms::grid::Grid;
 use mesh_bottoms::list::ListStage;
 use mesh_piles::text_report::text_report;
@@ -10,7 +11,7 @@ use mesh_report::report::Report;
 use mesh_stream::event::Event;
 use mesh_stream::fault::Refusal;
 use mesh_stream::stage::{Inlet, Stage};
-use std::alloc::{AllocError, Global};
+use std::alloc::Global;
 
 // What is asked, and where the answers lie.
 #[derive(Clone, Copy)]
@@ -35,11 +36,7 @@ where
 }
 
 // Answers the calls that any stage answers.
-fn ask<S: Stage + Drop>(
-    stage: &mut S,
-    call: Call,
-    answers: &mut Vec<Answer>,
-) -> Result<(), AllocError>
+fn ask<S: Stage + Drop>(stage: &mut S, call: Call, answers: &mut Vec<Answer>) -> Made<()>
 where
     S::Item: Into<Item>,
 {
@@ -66,7 +63,7 @@ fn report_on<S: Stage<Item = Event> + Drop>(
     stage: &mut S,
     call: Call,
     answers: &mut Vec<Answer>,
-) -> Result<(), AllocError> {
+) -> Made<()> {
     match call {
         Call::Run(most) => {
             answers.push(Answer::Ran(report.run(stage, most)))?;
@@ -82,7 +79,7 @@ fn shown(report: &Report) -> Answer {
     Answer::Report(report.totals().into(), report.standing().into())
 }
 
-fn spelled(alloc: Global, report: &Report, length: usize) -> Result<Answer, AllocError> {
+fn spelled(alloc: Global, report: &Report, length: usize) -> Made<Answer> {
     let mut buffer = vec![in alloc; UNWRITTEN; length]?;
     let length = report.spell(&mut buffer).map_err(Refusal::number);
     Ok(Answer::Spelled { length, buffer })

@@ -1,7 +1,8 @@
 // A stage on the heap: the layers of a tall pile are too large to be passed on by value from call to call.
+use crate::memory::Made;
 use mesh_stream::fault::Refusal;
 use mesh_stream::stage::{Inlet, Stage, Standing};
-use std::alloc::{AllocError, Global};
+use std::alloc::Global;
 
 #[derive(Drop)]
 pub struct Heaped<S> {
@@ -9,7 +10,7 @@ pub struct Heaped<S> {
 }
 
 impl<S: Drop> Heaped<S> {
-    pub fn new(alloc: Global, stage: S) -> Result<Heaped<S>, AllocError> {
+    pub fn new(alloc: Global, stage: S) -> Made<Heaped<S>> {
         Ok(Heaped {
             stage: Box::new(alloc, stage)?,
         })

@@ -1,5 +1,6 @@
 // Each layer, put on what is below and then on the heap.
 use crate::library::heaped::Heaped;
+use crate::memory::Made;
 use mesh_border::border::Border;
 use mesh_border::border_list::border_list;
 use mesh_filters::check::Check;
@@ -12,9 +13,9 @@ use mesh_piles::pile::{check, clean, clip, compact, renumber};
 use mesh_regions::region::Region;
 use mesh_stream::event::Event;
 use mesh_stream::stage::Stage;
-use std::alloc::{AllocError, Global};
+use std::alloc::Global;
 
-pub type Put<S, F> = Result<Heaped<Layer<S, F>>, AllocError>;
+pub type Put<S, F> = Made<Heaped<Layer<S, F>>>;
 
 pub fn put_check<S: Stage<Item = Event> + Drop>(alloc: Global, below: S) -> Put<S, Check> {
     Heaped::new(alloc, check(below))

@@ -1,6 +1,6 @@
 // Piles of layers over each bottom, and what stands on top.
 use crate::answer::Answer;
-use crate::case::{Case, Rule, Top};
+use crate::case::{Region, Rule, Top};
 use crate::library::answers::{
     Asking, inlet_answers, inlet_report, refused, stage_answers, stage_report,
 };
@@ -8,11 +8,12 @@ use crate::library::layers::{
     put_border, put_check, put_clean, put_clip, put_compact, put_renumber,
 };
 use crate::library::region::AnyRegion;
+use crate::memory::Made;
 use mesh_stream::event::Event;
 use mesh_stream::stage::{Inlet, Stage};
-use std::alloc::{AllocError, Global};
+use std::alloc::Global;
 
-pub type Answers = Result<Vec<Answer>, AllocError>;
+pub type Answers = Made<Vec<Answer>>;
 
 // Puts the lowest of the layers on what is below and goes on with those above it: a type for each pile, so a function for each depth.
 macro_rules! put_layer {
@@ -30,28 +31,39 @@ macro_rules! put_layer {
     };
 }
 
-// Puts all five layers on what is below, in one of two orders.
-macro_rules! put_five {
-    ($below:ident, $rules:ident, $asking:ident, $top:ident) => {{
-        let alloc = $asking.alloc;
-        match *$rules {
-            [Rule::Check, Rule::Clean, Rule::Clip(region), Rule::Compact, Rule::Renumber] => match AnyRegion::new(region) {
-                Ok(region) => {
-                    let pile = put_clip(alloc, put_clean(alloc, put_check(alloc, $below)?)?, region)?;
-                    $top(put_renumber(alloc, put_compact(alloc, pile)?)?, &[], $asking)
-                }
-                Err(refusal) => refused($asking, refusal),
-            },
-            [Rule::Renumber, Rule::Compact, Rule::Clip(region), Rule::Clean, Rule::Check] => match AnyRegion::new(region) {
-                Ok(region) => {
-                    let pile = put_clip(alloc, put_compact(alloc, put_renumber(alloc, $below)?)?, region)?;
-                    $top(put_check(alloc, put_clean(alloc, pile)?)?, &[], $asking)
-                }
-                Err(refusal) => refused($asking, refusal),
-            },
-            _ => Ok(Vec::new(alloc)),
+// Puts clip and two layers more on what is below.
+macro_rules! put_upper {
+    ($below:ident, $region:ident, $asking:ident, $fourth:ident, $fifth:ident, $top:ident) => {
+        match AnyRegion::new($region) {
+            Ok(region) => {
+                let pile = put_clip($asking.alloc, $below, region)?;
+                let pile = $fifth($asking.alloc, $fourth($asking.alloc, pile)?)?;
+                $top(pile, &[], $asking)
+            }
+            Err(refusal) => refused($asking, refusal),
         }
-    }};
+    };
+}
+
+// Puts five layers on what is below, in one of three orders.
+macro_rules! put_five {
+    ($below:ident, $rules:ident, $asking:ident, $down:ident, $up:ident) => {
+        match *$rules {
+            [Rule::Check, Rule::Clean, Rule::Clip(region), ..] => {
+                let pile = put_check($asking.alloc, $below)?;
+                $up(put_clean($asking.alloc, pile)?, region, $asking)
+            }
+            [Rule::Compact, Rule::Check, Rule::Clip(region), ..] => {
+                let pile = put_compact($asking.alloc, $below)?;
+                $up(put_check($asking.alloc, pile)?, region, $asking)
+            }
+            [Rule::Renumber, Rule::Compact, Rule::Clip(region), ..] => {
+                let pile = put_renumber($asking.alloc, $below)?;
+                $down(put_compact($asking.alloc, pile)?, region, $asking)
+            }
+            _ => Ok(Vec::new($asking.alloc)),
+        }
+    };
 }
 
 fn top_of_inlet<S: Inlet<Item = Event> + Drop>(
@@ -77,12 +89,41 @@ fn inlet_of_one<S: Inlet<Item = Event> + Drop>(
     }
 }
 
+fn inlet_up_to_renumber<S: Inlet<Item = Event> + Drop>(
+    below: S,
+    region: Region,
+    asking: &Asking<'_>,
+) -> Answers {
+    put_upper!(
+        below,
+        region,
+        asking,
+        put_compact,
+        put_renumber,
+        top_of_inlet
+    )
+}
+
+fn inlet_up_to_check<S: Inlet<Item = Event> + Drop>(
+    below: S,
+    region: Region,
+    asking: &Asking<'_>,
+) -> Answers {
+    put_upper!(below, region, asking, put_clean, put_check, top_of_inlet)
+}
+
 fn inlet_of_five<S: Inlet<Item = Event> + Drop>(
     below: S,
     rules: &[Rule],
     asking: &Asking<'_>,
 ) -> Answers {
-    put_five!(below, rules, asking, top_of_inlet)
+    put_five!(
+        below,
+        rules,
+        asking,
+        inlet_up_to_check,
+        inlet_up_to_renumber
+    )
 }
 
 // The answers of a pile over an inlet: of at most two layers, or of five.
@@ -121,12 +162,41 @@ fn stage_of_one<S: Stage<Item = Event> + Drop>(
     }
 }
 
+fn stage_up_to_renumber<S: Stage<Item = Event> + Drop>(
+    below: S,
+    region: Region,
+    asking: &Asking<'_>,
+) -> Answers {
+    put_upper!(
+        below,
+        region,
+        asking,
+        put_compact,
+        put_renumber,
+        top_of_stage
+    )
+}
+
+fn stage_up_to_check<S: Stage<Item = Event> + Drop>(
+    below: S,
+    region: Region,
+    asking: &Asking<'_>,
+) -> Answers {
+    put_upper!(below, region, asking, put_clean, put_check, top_of_stage)
+}
+
 fn stage_of_five<S: Stage<Item = Event> + Drop>(
     below: S,
     rules: &[Rule],
     asking: &Asking<'_>,
 ) -> Answers {
-    put_five!(below, rules, asking, top_of_stage)
+    put_five!(
+        below,
+        rules,
+        asking,
+        stage_up_to_check,
+        stage_up_to_renumber
+    )
 }
 
 // The answers of a pile over a stage that takes no text: of at most two layers, or of five.

@@ -41,19 +41,12 @@ impl From<Standing> for Ends {
 
 impl From<Totals> for Counts {
     fn from(totals: Totals) -> Counts {
-        let Totals {
-            vertices,
-            triangles,
-            finalized,
-            width,
-            area,
-        } = totals;
         Counts {
-            vertices,
-            triangles,
-            finalized,
-            width,
-            area,
+            vertices: totals.vertices,
+            triangles: totals.triangles,
+            finalized: totals.finalized,
+            width: totals.width,
+            area: totals.area,
         }
     }
 }

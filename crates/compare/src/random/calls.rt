@@ -1,7 +1,8 @@
 // Calls in any order: the text in pieces, with next between them, and what may come after the end.
 use crate::case::{Call, Top};
+use crate::memory::Made;
 use crate::random::numbers::Random;
-use std::alloc::{AllocError, Global};
+use std::alloc::Global;
 
 // A call that asks for what stands on top.
 fn asking(random: &mut Random, top: Top) -> Call {
@@ -31,12 +32,7 @@ fn asking_all(top: Top) -> Call {
 }
 
 // The text in pieces of at most about twice the grain; some pieces are empty, and now and then it is closed too early.
-fn pieces(
-    random: &mut Random,
-    top: Top,
-    length: usize,
-    calls: &mut Vec<Call>,
-) -> Result<(), AllocError> {
+fn pieces(random: &mut Random, top: Top, length: usize, calls: &mut Vec<Call>) -> Made<()> {
     let grain = random
         .pick(&[3, 20, 20, 100, 100, 1000, 6000])
         .max(length / 10);
@@ -59,7 +55,7 @@ fn pieces(
 }
 
 // What was not taken for want of room, in the end all of the text.
-fn last_pieces(top: Top, length: usize, calls: &mut Vec<Call>) -> Result<(), AllocError> {
+fn last_pieces(top: Top, length: usize, calls: &mut Vec<Call>) -> Made<()> {
     for _ in 0..(length / 2000).saturating_add(2) {
         calls.push(asking_all(top))?;
         calls.push(Call::Feed(5000))?;
@@ -69,12 +65,7 @@ fn last_pieces(top: Top, length: usize, calls: &mut Vec<Call>) -> Result<(), All
 }
 
 // Calls that feed a text of this length to what stands there, most often all of it, and mostly close it.
-pub fn calls(
-    alloc: Global,
-    random: &mut Random,
-    top: Top,
-    length: usize,
-) -> Result<Vec<Call>, AllocError> {
+pub fn calls(alloc: Global, random: &mut Random, top: Top, length: usize) -> Made<Vec<Call>> {
     let mut calls = Vec::new(alloc);
     pieces(random, top, length, &mut calls)?;
     if !random.one_in(8) {
@@ -93,11 +84,7 @@ pub fn calls(
 }
 
 // Calls to what takes no text.
-pub fn calls_without_text(
-    alloc: Global,
-    random: &mut Random,
-    top: Top,
-) -> Result<Vec<Call>, AllocError> {
+pub fn calls_without_text(alloc: Global, random: &mut Random, top: Top) -> Made<Vec<Call>> {
     let mut calls = Vec::new(alloc);
     for _ in 0..random.below(30) {
         calls.push(asking(random, top))?;

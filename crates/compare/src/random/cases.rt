@@ -1,5 +1,6 @@
 // Random cases.
 use crate::case::{Bottom, Call, Case, Region, Rule, Top};
+use crate::memory::Made;
 use crate::random::calls::{calls, calls_without_text};
 use crate::random::damage::damaged;
 use crate::random::limits::{crowd, net};
@@ -8,7 +9,7 @@ use crate::random::numbers::Random;
 use crate::random::records::records;
 use crate::random::text::text;
 use mesh_stream::event::{Event, Point};
-use std::alloc::{AllocError, Global};
+use std::alloc::Global;
 
 fn half_space(random: &mut Random) -> Region {
     let factors = [0; 3].map(|_| random.pick(&[0, 1, -1, 2, -3, 1000, -1000]));
@@ -80,39 +81,46 @@ fn rule(random: &mut Random) -> Rule {
     }
 }
 
-// Up to two layers, or a tall pile.
-fn rules(alloc: Global, random: &mut Random) -> Result<Vec<Rule>, AllocError> {
-    let region = region(random);
-    match random.below(12) {
-        0 => Ok(vec![in alloc;
+// Up to two layers, or five in one of three orders.
+fn rules(alloc: Global, random: &mut Random) -> Made<Vec<Rule>> {
+    let clip = Rule::Clip(region(random));
+    let mut rules = Vec::new(alloc);
+    match random.below(16) {
+        0 => rules.extend_from_slice(&[
             Rule::Check,
             Rule::Clean,
-            Rule::Clip(region),
+            clip,
             Rule::Compact,
             Rule::Renumber,
-        ]?),
-        1 => Ok(vec![in alloc;
+        ])?,
+        1 => rules.extend_from_slice(&[
+            Rule::Compact,
+            Rule::Check,
+            clip,
+            Rule::Compact,
+            Rule::Renumber,
+        ])?,
+        2 => rules.extend_from_slice(&[
             Rule::Renumber,
             Rule::Compact,
-            Rule::Clip(region),
+            clip,
             Rule::Clean,
             Rule::Check,
-        ]?),
+        ])?,
         _ => {
-            let mut rules = Vec::new(alloc);
             for _ in 0..random.pick(&[0, 1, 1, 2, 2, 2]) {
                 rules.push(rule(random))?;
             }
-            Ok(rules)
         }
     }
+    Ok(rules)
 }
 
 // The events of a case: now and then about as many as there may be.
-fn events(alloc: Global, random: &mut Random, top: Top) -> Result<Vec<Event>, AllocError> {
-    match (random.below(500), top) {
+fn events(alloc: Global, random: &mut Random, top: Top) -> Made<Vec<Event>> {
+    match (random.below(200), top) {
         (0, _) => crowd(alloc, random),
-        (1..=2, Top::Border) => net(alloc, random),
+        (1..=6, Top::Border) => net(alloc, random),
         _ => {
             let steps = random.pick(&[0, 1, 3, 10, 30, 30, 60]);
             any_mesh(alloc, random, steps)
@@ -163,11 +171,7 @@ fn grid(random: &mut Random) -> Bottom {
     }
 }
 
-fn text_case(
-    alloc: Global,
-    random: &mut Random,
-    top: Top,
-) -> Result<(Bottom, Vec<Call>), AllocError> {
+fn text_case(alloc: Global, random: &mut Random, top: Top) -> Made<(Bottom, Vec<Call>)> {
     let events = events(alloc, random, top)?;
     let mut text = text(alloc, random, events.as_slice())?;
     if random.one_in(2) {
@@ -177,11 +181,7 @@ fn text_case(
     Ok((Bottom::Text(text), calls))
 }
 
-fn list_case(
-    alloc: Global,
-    random: &mut Random,
-    top: Top,
-) -> Result<(Bottom, Vec<Call>), AllocError> {
+fn list_case(alloc: Global, random: &mut Random, top: Top) -> Made<(Bottom, Vec<Call>)> {
     let events = events(alloc, random, top)?;
     let records = records(alloc, random, events.as_slice())?;
     Ok((
@@ -191,7 +191,7 @@ fn list_case(
 }
 
 // The report program's pile, over a stream of text.
-fn stream_case(alloc: Global, random: &mut Random) -> Result<Case, AllocError> {
+fn stream_case(alloc: Global, random: &mut Random) -> Made<Case> {
     let (bottom, calls) = text_case(alloc, random, Top::Stream)?;
     Ok(Case {
         bottom,
@@ -201,7 +201,7 @@ fn stream_case(alloc: Global, random: &mut Random) -> Result<Case, AllocError> {
     })
 }
 
-pub fn case(alloc: Global, random: &mut Random) -> Result<Case, AllocError> {
+pub fn case(alloc: Global, random: &mut Random) -> Made<Case> {
     if random.one_in(12) {
         return stream_case(alloc, random);
     }

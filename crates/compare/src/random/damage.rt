@@ -1,6 +1,7 @@
 // Damage to texts: a range of the bytes is replaced by others.
+use crate::memory::Made;
 use crate::random::numbers::Random;
-use std::alloc::{AllocError, Global};
+use std::alloc::Global;
 
 // Bytes that tell something in a text, and some that do not.
 const BYTES: &[u8] = b"vfx#-+.0189 \t\r\n\0a\xff";
@@ -43,7 +44,7 @@ struct Edit<'a> {
     by: &'a [u8],
 }
 
-fn apply(alloc: Global, text: &[u8], edit: &Edit<'_>) -> Result<Vec<u8>, AllocError> {
+fn apply(alloc: Global, text: &[u8], edit: &Edit<'_>) -> Made<Vec<u8>> {
     let mut edited = Vec::from_slice(alloc, text.get(..edit.from).unwrap_or(text))?;
     edited.extend_from_slice(edit.by)?;
     edited.extend_from_slice(text.get(edit.to..).unwrap_or(&[]))?;
@@ -64,12 +65,7 @@ fn around(text: &[u8], position: usize, separators: &[u8]) -> (usize, usize) {
 }
 
 // Makes the line around the position as long as lines may be, or somewhat shorter or longer.
-fn padded(
-    alloc: Global,
-    random: &mut Random,
-    text: &[u8],
-    position: usize,
-) -> Result<Vec<u8>, AllocError> {
+fn padded(alloc: Global, random: &mut Random, text: &[u8], position: usize) -> Made<Vec<u8>> {
     let (from, to) = around(text, position, b"\n");
     let length = random.pick(&[126usize, 127, 127, 128, 128, 129, 300, 4000]);
     let missing = length.saturating_sub(to.saturating_sub(from));
@@ -87,12 +83,7 @@ fn padded(
 }
 
 // Drops the line around the position or doubles it.
-fn moved(
-    alloc: Global,
-    random: &mut Random,
-    text: &[u8],
-    position: usize,
-) -> Result<Vec<u8>, AllocError> {
+fn moved(alloc: Global, random: &mut Random, text: &[u8], position: usize) -> Made<Vec<u8>> {
     let (from, to) = around(text, position, b"\n");
     let behind = to.saturating_add(1);
     if random.one_in(2) {
@@ -157,12 +148,7 @@ fn small_edit<'a>(random: &mut Random, text: &[u8], position: usize, byte: &'a [
 }
 
 // The text with one thing changed at a position.
-fn damaged_at(
-    alloc: Global,
-    random: &mut Random,
-    text: &[u8],
-    position: usize,
-) -> Result<Vec<u8>, AllocError> {
+fn damaged_at(alloc: Global, random: &mut Random, text: &[u8], position: usize) -> Made<Vec<u8>> {
     match random.below(5) {
         0 => moved(alloc, random, text, position),
         1 => padded(alloc, random, text, position),
@@ -174,11 +160,7 @@ fn damaged_at(
 }
 
 // The text with one to three things changed.
-pub fn damaged(
-    alloc: Global,
-    random: &mut Random,
-    mut text: Vec<u8>,
-) -> Result<Vec<u8>, AllocError> {
+pub fn damaged(alloc: Global, random: &mut Random, mut text: Vec<u8>) -> Made<Vec<u8>> {
     for _ in 0..random.pick(&[1, 1, 2, 3]) {
         let position = random.position(text.len().saturating_add(1));
         text = damaged_at(alloc, random, text.as_slice(), position)?;

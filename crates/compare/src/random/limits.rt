@@ -1,10 +1,11 @@
 // Meshes at the limits of what may be live or open.
+use crate::memory::Made;
 use crate::random::mesh::Mesh;
 use crate::random::numbers::Random;
 use mesh_stream::event::{Event, Point};
-use std::alloc::{AllocError, Global};
+use std::alloc::Global;
 
-fn add_vertices(mesh: &mut Mesh, count: u32) -> Result<(), AllocError> {
+fn add_vertices(mesh: &mut Mesh, count: u32) -> Made<()> {
     for number in 0..count {
         let at = Point {
             x: i32::try_from(number % 40).unwrap_or(0),
@@ -17,7 +18,7 @@ fn add_vertices(mesh: &mut Mesh, count: u32) -> Result<(), AllocError> {
 }
 
 // About as many live vertices as there may be, and some triangles among them.
-pub fn crowd(alloc: Global, random: &mut Random) -> Result<Vec<Event>, AllocError> {
+pub fn crowd(alloc: Global, random: &mut Random) -> Made<Vec<Event>> {
     let mut mesh = Mesh::new(alloc);
     add_vertices(&mut mesh, random.pick(&[1023, 1024, 1024, 1025]))?;
     for _ in 0..random.below(200) {
@@ -33,7 +34,7 @@ pub fn crowd(alloc: Global, random: &mut Random) -> Result<Vec<Event>, AllocErro
 }
 
 // Two triangles of a vertex with each next pair of those behind it, so that any two vertices are joined by an edge.
-fn join_all(mesh: &mut Mesh, random: &mut Random, count: u32) -> Result<(), AllocError> {
+fn join_all(mesh: &mut Mesh, random: &mut Random, count: u32) -> Made<()> {
     for first in 1..count {
         for second in first..count {
             if second % 2 == first % 2 && !random.one_in(30) {
@@ -45,7 +46,7 @@ fn join_all(mesh: &mut Mesh, random: &mut Random, count: u32) -> Result<(), Allo
 }
 
 // About as many open edges as there may be.
-pub fn net(alloc: Global, random: &mut Random) -> Result<Vec<Event>, AllocError> {
+pub fn net(alloc: Global, random: &mut Random) -> Made<Vec<Event>> {
     let mut mesh = Mesh::new(alloc);
     let count = random.pick(&[91, 92, 93, 94]);
     add_vertices(&mut mesh, count)?;

@@ -1,7 +1,8 @@
 // Random meshes: events that grow step by step.
+use crate::memory::Made;
 use crate::random::numbers::Random;
 use mesh_stream::event::{Event, Point};
-use std::alloc::{AllocError, Global};
+use std::alloc::Global;
 
 #[derive(Drop)]
 pub struct Mesh {
@@ -31,7 +32,7 @@ impl Mesh {
         }
     }
 
-    pub fn add_vertex(&mut self, at: Point) -> Result<(), AllocError> {
+    pub fn add_vertex(&mut self, at: Point) -> Made<()> {
         self.last = self.last.saturating_add(1);
         self.live.push(self.last)?;
         self.events.push(Event::Vertex {
@@ -42,13 +43,13 @@ impl Mesh {
         Ok(())
     }
 
-    pub fn add_triangle(&mut self, [a, b, c]: [u32; 3]) -> Result<(), AllocError> {
+    pub fn add_triangle(&mut self, [a, b, c]: [u32; 3]) -> Made<()> {
         self.events.push(Event::Triangle { place: 0, a, b, c })?;
         Ok(())
     }
 
     // Finalizes the live vertex at this position, from the oldest.
-    pub fn finalize(&mut self, position: usize) -> Result<(), AllocError> {
+    pub fn finalize(&mut self, position: usize) -> Made<()> {
         if position < self.live.len() {
             let vertex = self.live.remove(position);
             self.events.push(Event::Finalization { place: 0, vertex })?;
@@ -76,7 +77,10 @@ impl Mesh {
         [0; 3].map(|_| self.any_live(random))
     }
 
-    fn walk(&mut self, random: &mut Random) -> Result<(), AllocError> {
+    fn walk(&mut self, random: &mut Random) -> Made<()> {
+        if self.live.is_empty() {
+            return self.add_vertex(point(random));
+        }
         match random.below(12) {
             0..=3 => self.add_vertex(point(random)),
             4..=8 => self.add_triangle(self.any_triangle(random)),
@@ -86,11 +90,11 @@ impl Mesh {
     }
 
     // What is most often at fault.
-    fn stumble(&mut self, random: &mut Random) -> Result<(), AllocError> {
-        if random.one_in(8) {
+    fn stumble(&mut self, random: &mut Random) -> Made<()> {
+        if random.one_in(20) {
             let vertex = self.any_number(random);
             self.events.push(Event::Finalization { place: 0, vertex })?;
-        } else if random.one_in(8) {
+        } else if random.one_in(20) {
             self.add_triangle([
                 self.any_live(random),
                 self.any_number(random),
@@ -100,7 +104,7 @@ impl Mesh {
         Ok(())
     }
 
-    fn grow(&mut self, growth: Growth, random: &mut Random) -> Result<(), AllocError> {
+    fn grow(&mut self, growth: Growth, random: &mut Random) -> Made<()> {
         if let Growth::Walk = growth {
             return self.walk(random);
         }
@@ -119,13 +123,13 @@ impl Mesh {
         Ok(())
     }
 
-    fn finalize_any(&mut self, random: &mut Random) -> Result<(), AllocError> {
+    fn finalize_any(&mut self, random: &mut Random) -> Made<()> {
         let live = self.live.len();
         self.finalize(random.position(live))
     }
 
     // Finalizes what is live, in any order.
-    pub fn finish(&mut self, random: &mut Random) -> Result<(), AllocError> {
+    pub fn finish(&mut self, random: &mut Random) -> Made<()> {
         for _ in 0..self.live.len() {
             self.finalize_any(random)?;
         }
@@ -154,7 +158,7 @@ fn point(random: &mut Random) -> Point {
 }
 
 // A mesh of so many steps, most often finished.
-pub fn any_mesh(alloc: Global, random: &mut Random, steps: u32) -> Result<Vec<Event>, AllocError> {
+pub fn any_mesh(alloc: Global, random: &mut Random, steps: u32) -> Made<Vec<Event>> {
     let mut mesh = Mesh::new(alloc);
     let growth = random.pick(&[Growth::Walk, Growth::Walk, Growth::Strip, Growth::Fan]);
     for _ in 0..steps {

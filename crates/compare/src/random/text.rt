@@ -1,7 +1,8 @@
 // Texts of events, in plain or odd spellings.
+use crate::memory::Made;
 use crate::random::numbers::Random;
 use mesh_stream::event::{Event, Point};
-use std::alloc::{AllocError, Global};
+use std::alloc::Global;
 
 #[derive(Drop)]
 struct Writer {
@@ -16,11 +17,11 @@ impl Writer {
         self.is_odd && self.random.one_in(6)
     }
 
-    fn put(&mut self, piece: &str) -> Result<(), AllocError> {
+    fn put(&mut self, piece: &str) -> Made<()> {
         self.text.push_str(piece)
     }
 
-    fn put_blank(&mut self) -> Result<(), AllocError> {
+    fn put_blank(&mut self) -> Made<()> {
         let blank = if self.is_odd() {
             self.random.pick(&["  ", "\t", "\r", " \t ", "      "])
         } else {
@@ -29,12 +30,12 @@ impl Writer {
         self.put(blank)
     }
 
-    fn put_number(&mut self, number: u32) -> Result<(), AllocError> {
+    fn put_number(&mut self, number: u32) -> Made<()> {
         self.put_blank()?;
         self.put_digits(number)
     }
 
-    fn put_digits(&mut self, number: u32) -> Result<(), AllocError> {
+    fn put_digits(&mut self, number: u32) -> Made<()> {
         if self.is_odd() {
             write!(self.text, "{number:09}")
         } else if self.is_odd() {
@@ -44,7 +45,7 @@ impl Writer {
         }
     }
 
-    fn put_coordinate(&mut self, coordinate: i32) -> Result<(), AllocError> {
+    fn put_coordinate(&mut self, coordinate: i32) -> Made<()> {
         self.put_blank()?;
         if coordinate < 0 || (coordinate == 0 && self.is_odd()) {
             self.put("-")?;
@@ -52,7 +53,7 @@ impl Writer {
         self.put_digits(coordinate.unsigned_abs())
     }
 
-    fn put_event(&mut self, event: &Event) -> Result<(), AllocError> {
+    fn put_event(&mut self, event: &Event) -> Made<()> {
         match *event {
             Event::Vertex {
                 at: Point { x, y, z },
@@ -77,7 +78,7 @@ impl Writer {
     }
 
     // What gives no event may stand before a line, and blanks around it.
-    fn put_line(&mut self, event: &Event) -> Result<(), AllocError> {
+    fn put_line(&mut self, event: &Event) -> Made<()> {
         if self.is_odd() {
             let line = self
                 .random
@@ -96,7 +97,7 @@ impl Writer {
 }
 
 // The events as a text, a line each.
-pub fn text(alloc: Global, random: &mut Random, events: &[Event]) -> Result<Vec<u8>, AllocError> {
+pub fn text(alloc: Global, random: &mut Random, events: &[Event]) -> Made<Vec<u8>> {
     let mut writer = Writer {
         text: String::new(alloc),
         is_odd: random.one_in(2),

@@ -1,6 +1,7 @@
 // The answers to calls, each by the whole list of the bytes taken.
 use crate::answer::{Answer, Counts, Ends, Item};
 use crate::case::{Bottom, Call, Case, MOST_ASKED, Rule, Top, piece};
+use crate::memory::Made;
 use crate::whole::acceptance::judge;
 use crate::whole::border::border;
 use crate::whole::bottom::given;
@@ -10,7 +11,7 @@ use crate::whole::region::is_allowed;
 use crate::whole::report::{counts, spelled, written};
 use crate::whole::text::Reading;
 use mesh_stream::event::Event;
-use std::alloc::{AllocError, Global};
+use std::alloc::Global;
 
 const MOST_KEPT: usize = 4096;
 
@@ -22,7 +23,7 @@ fn text(case: &Case) -> &[u8] {
 }
 
 // The events of a bottom, each with its count from 1.
-fn counted(alloc: Global, reading: &Reading) -> Result<Listed<Event>, AllocError> {
+fn counted(alloc: Global, reading: &Reading) -> Made<Listed<Event>> {
     let mut items = Vec::new(alloc);
     let mut asked = 1usize;
     for event in &reading.events {
@@ -40,7 +41,7 @@ fn counted(alloc: Global, reading: &Reading) -> Result<Listed<Event>, AllocError
 }
 
 // What the layers make of a bottom, from the lowest up.
-fn piled(alloc: Global, rules: &[Rule], reading: &Reading) -> Result<Listed<Event>, AllocError> {
+fn piled(alloc: Global, rules: &[Rule], reading: &Reading) -> Made<Listed<Event>> {
     let mut list = counted(alloc, reading)?;
     for rule in rules {
         list = layer(alloc, *rule, list)?;
@@ -48,7 +49,7 @@ fn piled(alloc: Global, rules: &[Rule], reading: &Reading) -> Result<Listed<Even
     Ok(list)
 }
 
-fn as_items(alloc: Global, list: Listed<Event>) -> Result<Listed<Item>, AllocError> {
+fn as_items(alloc: Global, list: Listed<Event>) -> Made<Listed<Item>> {
     let mut items = Vec::new(alloc);
     for given in &list.items {
         items.push(Given {
@@ -64,7 +65,7 @@ fn as_items(alloc: Global, list: Listed<Event>) -> Result<Listed<Item>, AllocErr
 }
 
 // All that comes out at the top.
-fn topped(alloc: Global, case: &Case, reading: &Reading) -> Result<Listed<Item>, AllocError> {
+fn topped(alloc: Global, case: &Case, reading: &Reading) -> Made<Listed<Item>> {
     let list = piled(alloc, case.rules.as_slice(), reading)?;
     match case.top {
         Top::Events => as_items(alloc, list),
@@ -94,7 +95,7 @@ struct Asked<'a> {
 
 impl Asked<'_> {
     // What is given now that more was taken or that it was closed.
-    fn refresh(&mut self) -> Result<(), AllocError> {
+    fn refresh(&mut self) -> Made<()> {
         if let Some(reading) = given(self.alloc, &self.case.bottom, self.taken, self.is_closed)? {
             self.list = topped(self.alloc, self.case, &reading)?;
             self.reading = reading;
@@ -117,7 +118,7 @@ impl Asked<'_> {
         self.dropped = self.dropped.max(length.unwrap_or(self.reading.settled));
     }
 
-    fn feed(&mut self, length: usize) -> Result<Answer, AllocError> {
+    fn feed(&mut self, length: usize) -> Made<Answer> {
         if self.is_closed {
             return Ok(Answer::Refused(1));
         }
@@ -131,7 +132,7 @@ impl Asked<'_> {
         Ok(Answer::Taken(length))
     }
 
-    fn close(&mut self) -> Result<Answer, AllocError> {
+    fn close(&mut self) -> Made<Answer> {
         if self.is_closed {
             return Ok(Answer::Refused(1));
         }
@@ -154,7 +155,7 @@ impl Asked<'_> {
         }
     }
 
-    fn drain(&mut self, answers: &mut Vec<Answer>) -> Result<(), AllocError> {
+    fn drain(&mut self, answers: &mut Vec<Answer>) -> Made<()> {
         for _ in 0..MOST_ASKED {
             let answer = self.next();
             let is_last = matches!(answer, Answer::None(_));
@@ -178,7 +179,7 @@ impl Asked<'_> {
     }
 
     // What the report keeps of the events that it took.
-    fn counts(&self) -> Result<Counts, AllocError> {
+    fn counts(&self) -> Made<Counts> {
         let mut events = Vec::new(self.alloc);
         for given in self.list.items.iter().take(self.handed) {
             if let Item::Event(item) = given.item {
@@ -191,12 +192,12 @@ impl Asked<'_> {
         Ok(counts(events.as_slice()))
     }
 
-    fn spell(&self, length: usize) -> Result<Answer, AllocError> {
+    fn spell(&self, length: usize) -> Made<Answer> {
         let report = spelled(self.alloc, &self.counts()?, &self.ends)?;
         written(self.alloc, report.as_slice(), length)
     }
 
-    fn answer(&mut self, call: Call, answers: &mut Vec<Answer>) -> Result<(), AllocError> {
+    fn answer(&mut self, call: Call, answers: &mut Vec<Answer>) -> Made<()> {
         match call {
             Call::Feed(length) => answers.push(self.feed(length)?)?,
             Call::Close => answers.push(self.close()?)?,
@@ -212,7 +213,7 @@ impl Asked<'_> {
     }
 
     // The report on a stream of text takes all that is pushed, and then its end.
-    fn stream(&mut self) -> Result<(), AllocError> {
+    fn stream(&mut self) -> Made<()> {
         for call in &self.case.calls {
             if let Call::Feed(length) = call {
                 let length = piece(text(self.case), self.taken, *length).len();
@@ -227,7 +228,7 @@ impl Asked<'_> {
 }
 
 // What is answered to the calls, and the room after each.
-fn called(asked: &mut Asked<'_>) -> Result<Vec<Answer>, AllocError> {
+fn called(asked: &mut Asked<'_>) -> Made<Vec<Answer>> {
     let mut answers = Vec::new(asked.alloc);
     for call in &asked.case.calls {
         asked.answer(*call, &mut answers)?;
@@ -246,7 +247,7 @@ fn is_refused(rule: &Rule) -> bool {
 }
 
 // The answers to a case, by the rules.
-pub fn answers(alloc: Global, case: &Case) -> Result<Vec<Answer>, AllocError> {
+pub fn answers(alloc: Global, case: &Case) -> Made<Vec<Answer>> {
     let Some(reading) = given(alloc, &case.bottom, 0, false)? else {
         return Ok(vec![in alloc; Answer::Refused(15)]?);
     };

@@ -1,9 +1,10 @@
 // The border list, by the whole list.
 use crate::answer::{Item, Side};
+use crate::memory::Made;
 use crate::whole::acceptance::{Events, cut, is_live, judge};
 use crate::whole::given::{Given, Listed};
 use mesh_stream::event::Event;
-use std::alloc::{AllocError, Global};
+use std::alloc::Global;
 
 const MOST_OPEN: usize = 4096;
 
@@ -30,7 +31,7 @@ fn other_end(side: &Side, end: u32) -> Option<u32> {
 }
 
 // All uses of edges, in order.
-fn uses(alloc: Global, events: Events<'_>) -> Result<Vec<Side>, AllocError> {
+fn uses(alloc: Global, events: Events<'_>) -> Made<Vec<Side>> {
     let mut all = Vec::new(alloc);
     for given in events {
         all.extend(sides(&given.item).into_iter().flatten())?;
@@ -39,7 +40,7 @@ fn uses(alloc: Global, events: Events<'_>) -> Result<Vec<Side>, AllocError> {
 }
 
 // Opens the edges that the event uses, or closes those at the vertex that it finalizes.
-fn follow(open: &mut Vec<Side>, event: &Event) -> Result<(), AllocError> {
+fn follow(open: &mut Vec<Side>, event: &Event) -> Made<()> {
     if let Event::Finalization { vertex, .. } = *event {
         open.retain(|side| other_end(side, vertex).is_none());
     }
@@ -52,7 +53,7 @@ fn follow(open: &mut Vec<Side>, event: &Event) -> Result<(), AllocError> {
 }
 
 // How many events come before the first that leaves too many edges open, if there is one.
-fn too_many(alloc: Global, events: Events<'_>) -> Result<Option<usize>, AllocError> {
+fn too_many(alloc: Global, events: Events<'_>) -> Made<Option<usize>> {
     let mut open = Vec::new(alloc);
     let mut count = 0usize;
     for given in events {
@@ -78,7 +79,7 @@ fn at_finalization(
     uses: &[Side],
     before: Events<'_>,
     vertex: u32,
-) -> Result<Vec<Side>, AllocError> {
+) -> Made<Vec<Side>> {
     let mut sides = Vec::new(alloc);
     for side in uses {
         if let Some(other) = other_end(side, vertex) {
@@ -91,7 +92,7 @@ fn at_finalization(
     Ok(sides)
 }
 
-fn all_sides(alloc: Global, events: Events<'_>) -> Result<Vec<Given<Item>>, AllocError> {
+fn all_sides(alloc: Global, events: Events<'_>) -> Made<Vec<Given<Item>>> {
     let uses = uses(alloc, events)?;
     let mut all = Vec::new(alloc);
     for (count, given) in events.iter().enumerate() {
@@ -109,7 +110,7 @@ fn all_sides(alloc: Global, events: Events<'_>) -> Result<Vec<Given<Item>>, Allo
 }
 
 // What the border list gives of what is given below it.
-pub fn border(alloc: Global, below: Listed<Event>) -> Result<Listed<Item>, AllocError> {
+pub fn border(alloc: Global, below: Listed<Event>) -> Made<Listed<Item>> {
     let mut list = judge("border", below);
     if let Some(count) = too_many(alloc, list.items.as_slice())? {
         cut(&mut list, "border", count, 14);

@@ -1,13 +1,14 @@
 // What a bottom gives.
 use crate::answer::Ends;
 use crate::case::{Bottom, piece};
+use crate::memory::Made;
 use crate::whole::grid::grid;
 use crate::whole::text::{Reading, read};
 use mesh_stream::event::Event;
-use std::alloc::{AllocError, Global};
+use std::alloc::Global;
 
 // The records in order, each with its position as its place.
-pub fn listed(alloc: Global, records: &[Event]) -> Result<Vec<Event>, AllocError> {
+pub fn listed(alloc: Global, records: &[Event]) -> Made<Vec<Event>> {
     let mut events = Vec::new(alloc);
     let mut place = 0u32;
     for record in records {
@@ -18,7 +19,7 @@ pub fn listed(alloc: Global, records: &[Event]) -> Result<Vec<Event>, AllocError
 }
 
 // A bottom that takes no text gives these records and ends.
-fn untexted(alloc: Global, records: &[Event]) -> Result<Reading, AllocError> {
+fn untexted(alloc: Global, records: &[Event]) -> Made<Reading> {
     Ok(Reading {
         events: listed(alloc, records)?,
         lengths: Vec::new(alloc),
@@ -33,7 +34,7 @@ pub fn given(
     bottom: &Bottom,
     taken: usize,
     is_closed: bool,
-) -> Result<Option<Reading>, AllocError> {
+) -> Made<Option<Reading>> {
     Ok(match bottom {
         Bottom::Text(text) => Some(read(alloc, piece(text.as_slice(), 0, taken), is_closed)?),
         Bottom::List(records) => Some(untexted(alloc, records.as_slice())?),

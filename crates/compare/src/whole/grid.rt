@@ -1,6 +1,7 @@
 // The grid, by rows and columns.
+use crate::memory::Made;
 use mesh_stream::event::{Event, Point};
-use std::alloc::{AllocError, Global};
+use std::alloc::Global;
 
 // The settings of a grid.
 #[derive(Clone, Copy)]
@@ -56,7 +57,7 @@ impl Settings {
     }
 
     // What follows vertex n where it closes a square.
-    fn put_square(&self, row: u32, column: u32, events: &mut Vec<Event>) -> Result<(), AllocError> {
+    fn put_square(&self, row: u32, column: u32, events: &mut Vec<Event>) -> Made<()> {
         let m = row.wrapping_mul(self.columns).wrapping_add(column);
         let n = m.wrapping_add(1);
         let q = n.wrapping_sub(self.columns);
@@ -83,12 +84,7 @@ impl Settings {
 }
 
 // All events of a grid, places aside, if its settings are allowed.
-pub fn grid(
-    alloc: Global,
-    columns: u32,
-    rows: u32,
-    step: u32,
-) -> Result<Option<Vec<Event>>, AllocError> {
+pub fn grid(alloc: Global, columns: u32, rows: u32, step: u32) -> Made<Option<Vec<Event>>> {
     let grid = Settings {
         columns,
         rows,

@@ -1,10 +1,11 @@
 // The five layers, each by its rule over the whole list.
 use crate::case::Rule;
+use crate::memory::Made;
 use crate::whole::acceptance::{Events, judge};
 use crate::whole::given::{Given, Listed};
 use crate::whole::region::is_inside;
 use mesh_stream::event::{Event, Point};
-use std::alloc::{AllocError, Global};
+use std::alloc::Global;
 
 fn name(rule: Rule) -> &'static str {
     match rule {
@@ -69,11 +70,7 @@ fn stays(rule: Rule, events: Events<'_>, event: &Event) -> bool {
     }
 }
 
-fn filtered(
-    alloc: Global,
-    rule: Rule,
-    events: Events<'_>,
-) -> Result<Vec<Given<Event>>, AllocError> {
+fn filtered(alloc: Global, rule: Rule, events: Events<'_>) -> Made<Vec<Given<Event>>> {
     events
         .iter()
         .copied()
@@ -109,7 +106,7 @@ fn renumbered(order: &[u32], event: Event) -> Option<Event> {
 }
 
 // The vertices in the order in which they come.
-fn coming_order(alloc: Global, events: Events<'_>) -> Result<Vec<u32>, AllocError> {
+fn coming_order(alloc: Global, events: Events<'_>) -> Made<Vec<u32>> {
     let mut order = Vec::new(alloc);
     for given in events {
         if let Event::Vertex { number, .. } = given.item {
@@ -120,7 +117,7 @@ fn coming_order(alloc: Global, events: Events<'_>) -> Result<Vec<u32>, AllocErro
 }
 
 // The vertices in the order in which triangles name them first.
-fn naming_order(alloc: Global, events: Events<'_>) -> Result<Vec<u32>, AllocError> {
+fn naming_order(alloc: Global, events: Events<'_>) -> Made<Vec<u32>> {
     let mut order = Vec::new(alloc);
     for given in events {
         if let Event::Triangle { a, b, c, .. } = given.item {
@@ -151,11 +148,7 @@ fn moved(events: Events<'_>, sought: u32, asked: usize) -> Option<Given<Event>> 
 }
 
 // Each vertex directly before the first triangle that names it; those that none names are left out.
-fn reordered(
-    alloc: Global,
-    events: Events<'_>,
-    order: &[u32],
-) -> Result<Vec<Given<Event>>, AllocError> {
+fn reordered(alloc: Global, events: Events<'_>, order: &[u32]) -> Made<Vec<Given<Event>>> {
     let mut all = Vec::new(alloc);
     let mut brought = 0usize;
     for given in events {
@@ -179,11 +172,7 @@ fn reordered(
 }
 
 // The events with their vertices numbered in this order; what names another vertex is left out.
-fn numbered(
-    alloc: Global,
-    events: Events<'_>,
-    order: &[u32],
-) -> Result<Vec<Given<Event>>, AllocError> {
+fn numbered(alloc: Global, events: Events<'_>, order: &[u32]) -> Made<Vec<Given<Event>>> {
     let mut all = Vec::new(alloc);
     for given in events {
         if let Some(item) = renumbered(order, given.item) {
@@ -196,11 +185,7 @@ fn numbered(
     Ok(all)
 }
 
-fn rewritten(
-    alloc: Global,
-    rule: Rule,
-    events: Events<'_>,
-) -> Result<Vec<Given<Event>>, AllocError> {
+fn rewritten(alloc: Global, rule: Rule, events: Events<'_>) -> Made<Vec<Given<Event>>> {
     match rule {
         Rule::Check | Rule::Clean | Rule::Clip(_) => filtered(alloc, rule, events),
         Rule::Compact => {
@@ -216,7 +201,7 @@ fn rewritten(
 }
 
 // What a layer makes of what is given below it.
-pub fn layer(alloc: Global, rule: Rule, below: Listed<Event>) -> Result<Listed<Event>, AllocError> {
+pub fn layer(alloc: Global, rule: Rule, below: Listed<Event>) -> Made<Listed<Event>> {
     let Listed { items, ends, asked } = judge(name(rule), below);
     Ok(Listed {
         items: rewritten(alloc, rule, items.as_slice())?,

@@ -1,10 +1,11 @@
 // The report, by the whole list of the events taken.
 use crate::answer::{Answer, Counts, Ends};
 use crate::case::UNWRITTEN;
+use crate::memory::Made;
 use crate::whole::acceptance::Events;
 use crate::whole::layer::{determinant, difference, point};
 use mesh_stream::event::Event;
-use std::alloc::{AllocError, Global};
+use std::alloc::Global;
 
 const LEAST_BUFFER: usize = 256;
 
@@ -60,7 +61,7 @@ pub fn counts(events: Events<'_>) -> Counts {
 }
 
 // The lines of a report.
-pub fn spelled(alloc: Global, counts: &Counts, ends: &Ends) -> Result<Vec<u8>, AllocError> {
+pub fn spelled(alloc: Global, counts: &Counts, ends: &Ends) -> Made<Vec<u8>> {
     let Counts {
         vertices,
         triangles,
@@ -84,7 +85,7 @@ pub fn spelled(alloc: Global, counts: &Counts, ends: &Ends) -> Result<Vec<u8>, A
 }
 
 // What becomes of a buffer of this length into which a report is spelled.
-pub fn written(alloc: Global, report: &[u8], length: usize) -> Result<Answer, AllocError> {
+pub fn written(alloc: Global, report: &[u8], length: usize) -> Made<Answer> {
     let mut buffer = vec![in alloc; UNWRITTEN; length]?;
     if length < LEAST_BUFFER {
         return Ok(Answer::Spelled {

@@ -1,7 +1,8 @@
 // Reading a text, by the rules over all of its bytes.
 use crate::answer::Ends;
+use crate::memory::Made;
 use mesh_stream::event::{Event, Point};
-use std::alloc::{AllocError, Global};
+use std::alloc::Global;
 
 const LONGEST_LINE: usize = 127;
 
@@ -24,7 +25,7 @@ fn is_blank(byte: u8) -> bool {
     matches!(byte, b' ' | b'\t' | b'\r')
 }
 
-fn words(alloc: Global, line: &[u8]) -> Result<Vec<&[u8]>, AllocError> {
+fn words(alloc: Global, line: &[u8]) -> Made<Vec<&[u8]>> {
     line.split(|byte| is_blank(*byte))
         .filter(|word| !word.is_empty())
         .collect(alloc)
@@ -137,12 +138,7 @@ impl Reading {
     }
 
     // What a line says, its end taken off.
-    fn judge(
-        &self,
-        alloc: Global,
-        place: u32,
-        line: &[u8],
-    ) -> Result<Result<Option<Event>, u8>, AllocError> {
+    fn judge(&self, alloc: Global, place: u32, line: &[u8]) -> Made<Result<Option<Event>, u8>> {
         if line.len() > LONGEST_LINE {
             return Ok(Err(2));
         }
@@ -150,12 +146,7 @@ impl Reading {
     }
 
     // Notes what the line says, up to whose end so many bytes lie. Answers whether it is no fault.
-    fn note(
-        &mut self,
-        said: Result<Option<Event>, u8>,
-        place: u32,
-        length: usize,
-    ) -> Result<bool, AllocError> {
+    fn note(&mut self, said: Result<Option<Event>, u8>, place: u32, length: usize) -> Made<bool> {
         match said {
             Err(cause) => {
                 self.ends = Ends::Faulty {
@@ -177,7 +168,7 @@ impl Reading {
 }
 
 // What a text gives, open or closed.
-pub fn read(alloc: Global, text: &[u8], is_closed: bool) -> Result<Reading, AllocError> {
+pub fn read(alloc: Global, text: &[u8], is_closed: bool) -> Made<Reading> {
     let mut reading = Reading::new(alloc);
     let mut place = 0u32;
     let mut length = 0usize;
