@@ -77,6 +77,19 @@ pub fn check_tells<I: Display + Drop, S: Stage<Item = I>>(
     Ok(())
 }
 
+// The inlet tells this while it is open, and then that once it is closed.
+pub fn check_closing<I: Display + Drop, P: Inlet<Item = I>>(
+    rt: &impl Abort,
+    heap: Global,
+    inlet: &mut P,
+    open: &str,
+    closed: &str,
+) -> Result<(), Fail> {
+    check_tells(rt, heap, inlet, open)?;
+    inlet.close()?;
+    check_tells(rt, heap, inlet, closed)
+}
+
 // The report is spelled so.
 pub fn check_spelled(rt: &impl Abort, report: &Report, expected: &str) -> Result<(), Fail> {
     let mut buffer = [0; 256];

@@ -1,8 +1,8 @@
 // Orders worked off on a pile, layers put on a pile at work, and faults that pass through many layers.
-use crate::common::{check_tells, closed_with, open_with, vertex};
+use crate::common::{check_tells, closed_with, open_with};
 use mesh_pipe::{
-    Cause, HalfSpace, Inlet, LayerName, Order, Refusal, Reply, Stage, Standing, TextReader, check,
-    clean, clip, compact, renumber, work_off,
+    Cause, HalfSpace, Inlet, LayerName, Order, Reply, Standing, TextReader, check, clean, clip,
+    compact, renumber, work_off,
 };
 use std::test::Fail;
 
@@ -16,35 +16,32 @@ fn orders_and_logs(rt: HostRuntime) {
         Order::Close,
     ];
     let fault = Standing::faulty(LayerName::Check, Cause::NotLive, 1);
-    let empty = Reply::Fed(Ok(99));
+    let untouched = Reply::Fed(Ok(99));
     let replies = [
         Reply::Gave(Err(Standing::Waiting)),
         Reply::Fed(Ok(7)),
         Reply::Gave(Err(fault)),
         Reply::Closed(Ok(())),
-        empty,
+        untouched,
     ];
-    let mut pile = check(TextReader::new());
-    let mut log = [empty; 5];
-    assert_eq!(rt; work_off(&mut pile, &orders, &mut log), 4);
-    assert_eq!(rt; log, replies);
-    assert_eq!(rt; pile.close(), Err(Refusal::InletClosed));
-    let mut pile = check(TextReader::new());
-    let mut log = [empty; 3];
-    assert_eq!(rt; work_off(&mut pile, &orders, &mut log), 3);
-    assert_eq!(rt; log.as_slice(), &replies[0..3]);
-    assert_eq!(rt; pile.close(), Ok(()));
+    for (size, count, room) in [(5, 4, 0), (3, 3, 4093)] {
+        let mut pile = check(TextReader::new());
+        let mut log = [untouched; 5];
+        assert_eq!(rt; work_off(&mut pile, &orders, &mut log[0..size]), count);
+        assert_eq!(rt; &log[0..size], &replies[0..size]);
+        assert_eq!(rt; pile.room(), room);
+    }
 }
 
 // The layer that is put on judges and numbers only what is still to come: vertex 1 was handed over before.
 #[test]
 fn a_layer_on_a_pile_at_work(rt: HostRuntime) -> Result<(), Fail> {
-    let mut pile = check(open_with(&rt, b"v 0 0 0\nv 5 5 5\nx 2\n")?);
-    assert_eq!(rt; pile.next(), Ok(vertex(1).placed_at(1)));
+    let mut pile = check(open_with(&rt, b"v 0 0 0\n")?);
+    check_tells(&rt, rt.alloc(), &mut pile, "v 1 0 0 0 @1, waiting")?;
     let mut pile = renumber(pile);
-    check_tells(&rt, rt.alloc(), &mut pile, "v 1 5 5 5 @2, x 1 @3, waiting")?;
-    assert_eq!(rt; pile.feed(b"x 1\n")?, 4);
-    check_tells(&rt, rt.alloc(), &mut pile, "fault renumber 11 4")
+    pile.feed(b"v 5 5 5\nx 2\nx 1\n")?;
+    let events = "v 1 5 5 5 @2, x 1 @3, fault renumber 11 4";
+    check_tells(&rt, rt.alloc(), &mut pile, events)
 }
 
 // The reader names the first fault, and the lowest layer the others.

@@ -1,6 +1,6 @@
 // Words and lines of the text reader.
-use crate::common::{check_tells, closed_with, open_with};
-use mesh_pipe::{Cause, Inlet, LayerName, Stage, Standing};
+use crate::common::{check_closing, check_tells, closed_with, open_with};
+use mesh_pipe::{Cause, LayerName, Stage, Standing};
 use std::process::Abort;
 use std::test::Fail;
 
@@ -73,38 +73,29 @@ fn good_lines(rt: HostRuntime) -> Result<(), Fail> {
     check_tells(&rt, heap, &mut closed_with(&rt, text)?, events)
 }
 
-// The first line has 127 bytes: alone, then with a line end and one line more, and then as a comment.
+// A line may have 127 bytes, with a line end or without. 128 are too many, even in a comment or of blanks alone.
 #[test]
-fn a_line_of_127_bytes(rt: HostRuntime) -> Result<(), Fail> {
-    let mut text = [b' '; 132];
-    text[0] = b'x';
-    text[126] = b'7';
-    text[127..132].copy_from_slice(b"\nx 1\n");
-    let mut reader = open_with(&rt, &text[0..127])?;
-    check_tells(&rt, rt.alloc(), &mut reader, "waiting")?;
-    reader.close()?;
-    check_tells(&rt, rt.alloc(), &mut reader, "x 7 @1, ended")?;
-    let mut reader = open_with(&rt, &text)?;
-    check_tells(&rt, rt.alloc(), &mut reader, "x 7 @1, x 1 @2, waiting")?;
-    text[0] = b'#';
-    let mut reader = open_with(&rt, &text)?;
-    check_tells(&rt, rt.alloc(), &mut reader, "x 1 @2, waiting")
-}
-
-// 128 bytes are too many, open or closed, with a line end or without, and even of blanks or of a comment.
-#[test]
-fn a_line_of_128_bytes(rt: HostRuntime) -> Result<(), Fail> {
-    let blanks = [b' '; 128];
-    let mut comment = blanks;
-    comment[0] = b'#';
-    let mut with_line_end = [b' '; 129];
-    with_line_end[128] = b'\n';
-    let texts: [&[u8]; 3] = [&blanks, &comment, &with_line_end];
-    for text in texts {
+fn long_lines(rt: HostRuntime) -> Result<(), Fail> {
+    let mut line = [b' '; 132];
+    line[0] = b'x';
+    line[126] = b'7';
+    line[127..132].copy_from_slice(b"\nx 1\n");
+    let mut comment = [b'#'; 129];
+    comment[127..129].copy_from_slice(b"\n-");
+    let mut blanks = [b' '; 129];
+    blanks[128] = b'\n';
+    let fault = "fault reader 2 1";
+    let cases: [(&[u8], &str, &str); 6] = [
+        (&line[0..127], "waiting", "x 7 @1, ended"),
+        (&line, "x 7 @1, x 1 @2, waiting", "ended"),
+        (&comment, "waiting", "fault reader 3 2"),
+        (&[b'#'; 128], fault, fault),
+        (&[b' '; 128], fault, fault),
+        (&blanks, fault, fault),
+    ];
+    for (text, open, closed) in cases {
         let mut reader = open_with(&rt, text)?;
-        check_tells(&rt, rt.alloc(), &mut reader, "fault reader 2 1")?;
-        reader.close()?;
-        check_tells(&rt, rt.alloc(), &mut reader, "fault reader 2 1")?;
+        check_closing(&rt, rt.alloc(), &mut reader, open, closed)?;
     }
     Ok(())
 }

@@ -20,6 +20,6 @@ fn refused_regions(rt: HostRuntime) {
     let low = Point { x: 0, y: 0, z: 0 };
     let high = Point { x: 9, y: 9, z: -1 };
     let refusal = Refusal::SettingNotAllowed;
-    assert_eq!(rt; AlignedBox::new(low, high), Err(refusal));
-    assert_eq!(rt; HalfSpace::new(0, 0, 1001, 0), Err(refusal));
+    assert_eq!(rt; AlignedBox::new(low, high).err(), Some(refusal));
+    assert_eq!(rt; HalfSpace::new(0, 0, 1001, 0).err(), Some(refusal));
 }

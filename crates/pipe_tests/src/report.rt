@@ -1,66 +1,74 @@
-// Runs of a report over a list: what they answer, count and leave in the stage.
-use crate::common::{check_spelled, finalization, triangle, vertex, vertex_at};
-use mesh_pipe::{Event, ListStage, Report, Stage, StreamReport, TextReader};
+// Runs of a report: what they answer, count and leave in the stage.
+use crate::common::{check_spelled, check_tells, closed_with, triangle, vertex_at};
+use mesh_pipe::{ListStage, Report, StreamReport, TextReader};
+use std::alloc::Global;
 use std::process::Abort;
 use std::test::Fail;
 
-// A square of two triangles, whose corners turn to the left. At most three of its vertices are live at once.
-fn square() -> [Event; 10] {
-    [
-        vertex_at(1, 0, 0, 0),
-        vertex_at(2, 10, 0, 5),
-        vertex_at(3, 10, 10, 0),
-        triangle(1, 2, 3),
-        finalization(2),
-        vertex_at(4, 0, 10, 5),
-        triangle(1, 3, 4),
-        finalization(1),
-        finalization(3),
-        finalization(4),
-    ]
-}
-
 // A report that is spelled so takes nothing more, from any stage, and stays as it is.
-fn check_takes_nothing(rt: &impl Abort, report: &mut Report, expected: &str) -> Result<(), Fail> {
+fn check_takes_nothing(
+    rt: &impl Abort,
+    heap: Global,
+    report: &mut Report,
+    expected: &str,
+) -> Result<(), Fail> {
     check_spelled(rt, report, expected)?;
-    let records = [vertex(50)];
-    let mut stage = ListStage::new(&records);
+    let mut stage = closed_with(rt, b"x 50")?;
     assert_eq!(rt; report.run(&mut stage, 5), 0);
     report.run_out(&mut stage);
-    assert_eq!(rt; stage.next(), Ok(vertex(50).placed_at(1)));
+    check_tells(rt, heap, &mut stage, "x 50 @1, ended")?;
     check_spelled(rt, report, expected)
 }
 
-// A run that takes all it may does not see the end; the last one finds nothing but the end.
+// A square of two triangles, whose corners turn to the left. At most three of its vertices are live at once.
+const SQUARE: &[u8] =
+    b"v 0 0 0\nv 10 0 5\nv 10 10 0\nf 1 2 3\nx 2\nv 0 10 5\nf 1 3 4\nx 1\nx 3\nx 4\n";
+
+// What a run may take, what it does take, and the report then. A run that takes all it may does not see the end.
+const RUNS: [(u64, u64, &str); 4] = [
+    (
+        0,
+        0,
+        "vertices 0\ntriangles 0\nfinalized 0\nwidth 0\narea 0\nend open\n",
+    ),
+    (
+        5,
+        5,
+        "vertices 3\ntriangles 1\nfinalized 1\nwidth 3\narea 100\nend open\n",
+    ),
+    (
+        5,
+        5,
+        "vertices 4\ntriangles 2\nfinalized 4\nwidth 3\narea 200\nend open\n",
+    ),
+    (
+        u64::MAX,
+        0,
+        "vertices 4\ntriangles 2\nfinalized 4\nwidth 3\narea 200\nend ok\n",
+    ),
+];
+
 #[test]
 fn runs_up_to_the_end(rt: HostRuntime) -> Result<(), Fail> {
-    let records = square();
-    let mut stage = ListStage::new(&records);
+    let mut reader = closed_with(&rt, SQUARE)?;
     let mut report = Report::new();
-    for n in [0, 1, 4] {
-        assert_eq!(rt; report.run(&mut stage, n), n);
+    for (n, taken, text) in RUNS {
+        assert_eq!(rt; report.run(&mut reader, n), taken);
+        check_spelled(&rt, &report, text)?;
     }
-    let half = "vertices 3\ntriangles 1\nfinalized 1\nwidth 3\narea 100\nend open\n";
-    check_spelled(&rt, &report, half)?;
-    assert_eq!(rt; report.run(&mut stage, 5), 5);
-    let open = "vertices 4\ntriangles 2\nfinalized 4\nwidth 3\narea 200\nend open\n";
-    check_spelled(&rt, &report, open)?;
-    assert_eq!(rt; report.run(&mut stage, u64::MAX), 0);
     let ended = "vertices 4\ntriangles 2\nfinalized 4\nwidth 3\narea 200\nend ok\n";
-    check_takes_nothing(&rt, &mut report, ended)
+    check_takes_nothing(&rt, rt.alloc(), &mut report, ended)
 }
 
 // The event at fault is not counted, and it is gone from the stage.
 #[test]
 fn a_fault(rt: HostRuntime) -> Result<(), Fail> {
-    let records = [vertex(1), finalization(2), finalization(1), vertex(3)];
-    let mut stage = ListStage::new(&records);
+    let mut reader = closed_with(&rt, b"v 0 0 0\nx 2\nx 1\nx 3")?;
     let mut report = Report::new();
-    assert_eq!(rt; report.run(&mut stage, 4), 1);
+    assert_eq!(rt; report.run(&mut reader, 4), 1);
     let text = "vertices 1\ntriangles 0\nfinalized 0\nwidth 1\narea 0\nfault report 11 2\n";
-    check_takes_nothing(&rt, &mut report, text)?;
-    assert_eq!(rt; stage.next(), Ok(finalization(1).placed_at(3)));
-    Ok(())
+    check_takes_nothing(&rt, rt.alloc(), &mut report, text)?;
+    check_tells(&rt, rt.alloc(), &mut reader, "x 1 @3, x 3 @4, ended")
 }
 
 // A triangle with corners as far apart as they may be, half of a square of 200,000 by 200,000.

@@ -1,7 +1,9 @@
 // The small meshes that the crate small_meshes speaks of. Its long lines are among those of reading.rt.
-use crate::common::{check_spelled, check_tells, finalization, open_with, vertex_at};
+use crate::common::{
+    check_closing, check_spelled, check_tells, finalization, open_with, vertex_at,
+};
 use mesh_pipe::{
-    AlignedBox, Grid, Inlet, Point, Standing, border_list, check, clip, renumber, text_report,
+    AlignedBox, Grid, Point, Standing, border_list, check, clip, renumber, text_report,
 };
 use small_meshes::pieces::{asked_at_the_end, asked_between};
 use std::test::Fail;
@@ -39,9 +41,7 @@ const CHECKED: [(&[u8], &str, &str); 3] = [
 fn checked_texts(rt: HostRuntime) -> Result<(), Fail> {
     for (text, open, closed) in CHECKED {
         let mut pile = check(open_with(&rt, text)?);
-        check_tells(&rt, rt.alloc(), &mut pile, open)?;
-        pile.close()?;
-        check_tells(&rt, rt.alloc(), &mut pile, closed)?;
+        check_closing(&rt, rt.alloc(), &mut pile, open, closed)?;
     }
     Ok(())
 }
