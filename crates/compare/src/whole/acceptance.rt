@@ -47,7 +47,7 @@ fn is_in_range(at: Point) -> bool {
     [at.x, at.y, at.z].iter().all(|coordinate| coordinate.unsigned_abs() <= LARGEST_COORDINATE)
 }
 
-// Why an event is not accepted after others, if it is not.
+// Why an event is not accepted after others, if it is not. No list here has so many triangles that it is for their number.
 fn cause(before: Events<'_>, event: &Event) -> Option<u8> {
     match *event {
         Event::Vertex { number, at, .. } => {
@@ -78,7 +78,7 @@ fn accepted(events: Events<'_>) -> (usize, Option<u8>) {
     (events.len(), None)
 }
 
-// The place of the lowest-numbered vertex that is still live.
+// The place of the lowest-numbered vertex that is still live: numbers rise, so it is the first.
 fn lowest_live(events: Events<'_>) -> Option<u32> {
     events
         .iter()

@@ -74,15 +74,15 @@ fn topped(alloc: Global, case: &Case, reading: &Reading) -> Made<Listed<Item>> {
     }
 }
 
-// What stands at a point of the calls.
+// How far the calls have come.
 #[derive(Drop)]
-struct Asked<'a> {
+struct Progress<'a> {
     alloc: Global,
     case: &'a Case,
     // how many bytes of the text are taken
     taken: usize,
     is_closed: bool,
-    // what is given of these
+    // what these give in all
     reading: Reading,
     list: Listed<Item>,
     // how many items were handed over
@@ -93,7 +93,7 @@ struct Asked<'a> {
     ends: Ends,
 }
 
-impl Asked<'_> {
+impl Progress<'_> {
     // What is given now that more was taken or that it was closed.
     fn refresh(&mut self) -> Made<()> {
         if let Some(reading) = given(self.alloc, &self.case.bottom, self.taken, self.is_closed)? {
@@ -110,7 +110,8 @@ impl Asked<'_> {
         MOST_KEPT.saturating_sub(self.taken.saturating_sub(self.dropped))
     }
 
-    // So many events of the bottom were asked for: the reader dropped the lines of these, or all that it can.
+    // So many events of the bottom were asked for, and no more, since a layer asks only where it has nothing to hand over: the reader
+    // dropped the lines of these, or all that it can where it has fewer.
     fn drop_asked(&mut self, asked: usize) {
         let length = asked
             .checked_sub(1)
@@ -227,13 +228,13 @@ impl Asked<'_> {
     }
 }
 
-// What is answered to the calls, and the room after each.
-fn called(asked: &mut Asked<'_>) -> Made<Vec<Answer>> {
-    let mut answers = Vec::new(asked.alloc);
-    for call in &asked.case.calls {
-        asked.answer(*call, &mut answers)?;
-        if matches!(asked.case.bottom, Bottom::Text(_)) {
-            answers.push(Answer::Room(asked.room()))?;
+// What is answered to the calls, and the room after each if text is taken.
+fn called(progress: &mut Progress<'_>) -> Made<Vec<Answer>> {
+    let mut answers = Vec::new(progress.alloc);
+    for call in &progress.case.calls {
+        progress.answer(*call, &mut answers)?;
+        if matches!(progress.case.bottom, Bottom::Text(_)) {
+            answers.push(Answer::Room(progress.room()))?;
         }
     }
     Ok(answers)
@@ -254,7 +255,7 @@ pub fn answers(alloc: Global, case: &Case) -> Made<Vec<Answer>> {
     if case.rules.iter().any(is_refused) {
         return Ok(vec![in alloc; Answer::Refused(15)]?);
     }
-    let mut asked = Asked {
+    let mut progress = Progress {
         alloc,
         case,
         taken: 0,
@@ -266,9 +267,9 @@ pub fn answers(alloc: Global, case: &Case) -> Made<Vec<Answer>> {
         ends: Ends::Waiting,
     };
     if let Top::Stream = case.top {
-        asked.stream()?;
-        let report = Answer::Report(asked.counts()?, asked.ends);
-        return Ok(vec![in alloc; report, asked.spell(256)?]?);
+        progress.stream()?;
+        let report = Answer::Report(progress.counts()?, progress.ends);
+        return Ok(vec![in alloc; report, progress.spell(256)?]?);
     }
-    called(&mut asked)
+    called(&mut progress)
 }

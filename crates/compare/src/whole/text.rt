@@ -1,4 +1,4 @@
-// Reading a text, by the rules over all of its bytes.
+// Reading a text, by the rules over all of its bytes. No text here has so many lines that this is a fault.
 use crate::answer::Ends;
 use crate::memory::Made;
 use mesh_pipe::{Event, Point};
