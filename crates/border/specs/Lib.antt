@@ -1,4 +1,2 @@
 -- What the program prints.
-pub mod Listing
--- What is printed and read on the way.
-pub mod Steps
+pub mod Border

@@ -1,35 +1,54 @@
 // Writes a grid as a mesh text: grid_text COLUMNS ROWS STEP.
 #![tactic(auto)]
 
-ghost use Rattle.std.specs.Prelude.{◌≡◌, [], OnOk};
+ghost use Rattle.std.specs.Prelude.{[], OnOk, Some as Known};
+ghost use Rattle.std.specs.Io.KnownBytes.{Appends};
 ghost use Rattle.mesh_stream.specs.Meaning.{unclosed};
+ghost use Rattle.mesh_listing.specs.Listing.{lines};
+ghost use Rattle.grid_text.specs.GridText.{text_of, GridWritten};
 
 use mesh_bottoms::grid::Grid;
 use mesh_stream::event::{Event, Point};
 use mesh_stream::stage::Stage;
-use std::env;
 use std::io::{BufWriter, Write};
+use std::{env, fmt, io};
 
-fn write_event<W: Write>(out: &mut W, event: Event) -> anyhow::Result<()> {
-    match event {
-        Event::Vertex {
-            at: Point { x, y, z },
-            ..
-        } => writeln!(out, "v {x} {y} {z}")?,
-        Event::Triangle { a, b, c, .. } => writeln!(out, "f {a} {b} {c}")?,
-        Event::Finalization { vertex, .. } => writeln!(out, "x {vertex}")?,
+// An event as a line of a mesh text: that is without its place, and without the number of a vertex.
+#[derive(Clone, Copy)]
+struct TextLine(Event);
+
+impl fmt::Display for TextLine {
+    ghost output = { λ l. Known (text_of l.0) };
+
+    fn fmt<W: fmt::Write>(&self, f: &mut fmt::Formatter<W>) -> fmt::Result {
+        match self.0 {
+            Event::Vertex {
+                at: Point { x, y, z },
+                ..
+            } => write!(f, "v {x} {y} {z}"),
+            Event::Triangle { a, b, c, .. } => write!(f, "f {a} {b} {c}"),
+            Event::Finalization { vertex, .. } => write!(f, "x {vertex}"),
+        }
     }
-    Ok(())
 }
 
-// Writes all that the stage has: the loop over `next`, short enough to stand in each program.
-fn write_all<S: Stage<Item = Event>, W: Write>(stage: &mut S, out: &mut W) -> anyhow::Result<()>
-    ensures { OnOk result ((S.Stage.meaning stage.new [] unclosed).items ≡ []) }
+// Writes all that the stage has.
+fn write_all<S: Stage<Item = Event>, W: Write>(stage: &mut S, out: &mut W) -> io::Result<()>
+    ensures { OnOk result (Appends (W.Write.contents out.old) (W.Write.contents out.new)
+        (lines text_of (S.Stage.meaning stage.old [] unclosed).items)) }
 {
     while let Ok(event) = stage.next() {
-        write_event(out, event)?;
+        writeln!(out, "{}", TextLine(event))?;
     }
-    out.flush()?;
+    out.flush()
+}
+
+// Writes the grid with these settings.
+fn write_grid<W: Write>(columns: u32, rows: u32, step: u32, out: &mut W) -> anyhow::Result<()>
+    ensures { OnOk result (GridWritten columns rows step (W.Write.contents out.old) (W.Write.contents out.new)) }
+{
+    let mut grid = Grid::new(columns, rows, step)?;
+    write_all(&mut grid, out)?;
     Ok(())
 }
 
@@ -44,8 +63,8 @@ fn settings(rt: &HostRuntime) -> anyhow::Result<[u32; 3]> {
 
 fn run(rt: &HostRuntime) -> anyhow::Result<()> {
     let [columns, rows, step] = settings(rt)?;
-    let mut grid = Grid::new(columns, rows, step)?;
-    write_all(&mut grid, &mut BufWriter::new(rt.alloc(), rt.stdout())?)
+    let mut out = BufWriter::new(rt.alloc(), rt.stdout())?;
+    write_grid(columns, rows, step, &mut out)
 }
 
 fn main(rt: HostRuntime) -> anyhow::Result<()> {

@@ -1,2 +1,0 @@
-mod Printing
-mod Turns
