@@ -51,8 +51,7 @@ fn three_pieces(rt: HostRuntime) -> Result<(), Fail> {
     let vertex = vertex_at(1, 1, 2, 3).placed_at(1);
     let finalization = finalization(1).placed_at(2);
     let waits = Err(Standing::Waiting);
-    let at_the_end = [Ok(vertex), Ok(finalization), waits];
-    assert_eq!(rt; asked_at_the_end()?, at_the_end);
+    assert_eq!(rt; asked_at_the_end()?, [Ok(vertex), Ok(finalization), waits]);
     assert_eq!(rt; asked_between()?, [waits, Ok(vertex), Ok(finalization)]);
     Ok(())
 }
