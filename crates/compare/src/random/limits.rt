@@ -33,12 +33,18 @@ pub fn crowd(alloc: Global, random: &mut Random) -> Made<Vec<Event>> {
     Ok(mesh.events)
 }
 
-// Two triangles of a vertex with each next pair of those behind it, so that any two vertices are joined by an edge.
+// Triangles of each vertex with each next pair of those behind it, so that almost any two vertices are joined by an edge. Now and then the
+// third corner is an earlier vertex, so that there is one edge more and not two.
 fn join_all(mesh: &mut Mesh, random: &mut Random, count: u32) -> Made<()> {
     for first in 1..count {
         for second in first..count {
-            if second % 2 == first % 2 && !random.one_in(30) {
-                mesh.add_triangle([first, second.saturating_add(1), second])?;
+            if second % 2 == first % 2 {
+                let third = if random.one_in(12) {
+                    random.below(first).saturating_add(1)
+                } else {
+                    second.saturating_add(1)
+                };
+                mesh.add_triangle([first, third, second])?;
             }
         }
     }
@@ -48,7 +54,7 @@ fn join_all(mesh: &mut Mesh, random: &mut Random, count: u32) -> Made<()> {
 // About as many open edges as there may be.
 pub fn net(alloc: Global, random: &mut Random) -> Made<Vec<Event>> {
     let mut mesh = Mesh::new(alloc);
-    let count = random.pick(&[91, 92, 93, 94]);
+    let count = random.pick(&[92, 93, 93, 94, 95]);
     add_vertices(&mut mesh, count)?;
     join_all(&mut mesh, random, count)?;
     for _ in 0..300 {
