@@ -1,7 +1,8 @@
 // Writes a grid as a mesh text: grid_text COLUMNS ROWS STEP.
 #![tactic(auto)]
 
-ghost use Rattle.std.specs.Prelude.{[], OnOk, Some as Known};
+ghost use Rattle.std.specs.Prelude.{◌≡◌, [], OnOk, Some as Known};
+ghost use Rattle.std.specs.Io.Buffered.{writer_buffer, writer_contents};
 ghost use Rattle.std.specs.Io.KnownBytes.{Appends};
 ghost use Rattle.mesh_stream.specs.Meaning.{unclosed};
 ghost use Rattle.mesh_listing.specs.Lines.{lines};
@@ -33,9 +34,10 @@ impl fmt::Display for TextLine {
 }
 
 // Writes all that the stage has.
-fn write_all<S: Stage<Item = Event>, W: Write>(stage: &mut S, out: &mut W) -> io::Result<()>
-    ensures { OnOk result (Appends (W.Write.contents out.old) (W.Write.contents out.new)
+fn write_all<S: Stage<Item = Event>, W: Write + Drop>(stage: &mut S, out: &mut BufWriter<W>) -> io::Result<()>
+    ensures written { OnOk result (Appends (writer_contents W.Write.contents out.old) (writer_contents W.Write.contents out.new)
         (lines text_of (S.Stage.meaning stage.old [] unclosed).items)) }
+    ensures flushed { OnOk result (writer_buffer out.new ≡ []) }
 {
     while let Ok(event) = stage.next() {
         writeln!(out, "{}", TextLine(event))?;
@@ -44,8 +46,10 @@ fn write_all<S: Stage<Item = Event>, W: Write>(stage: &mut S, out: &mut W) -> io
 }
 
 // Writes the grid with these settings.
-fn write_grid<W: Write>(columns: u32, rows: u32, step: u32, out: &mut W) -> anyhow::Result<()>
-    ensures { OnOk result (GridWritten columns rows step (W.Write.contents out.old) (W.Write.contents out.new)) }
+fn write_grid<W: Write + Drop>(columns: u32, rows: u32, step: u32, out: &mut BufWriter<W>) -> anyhow::Result<()>
+    ensures written { OnOk result (GridWritten columns rows step
+        (writer_contents W.Write.contents out.old) (writer_contents W.Write.contents out.new)) }
+    ensures flushed { OnOk result (writer_buffer out.new ≡ []) }
 {
     let mut grid = Grid::new(columns, rows, step)?;
     write_all(&mut grid, out)?;

@@ -13,8 +13,8 @@ loop-preserved g c = record {
       c.in_ok-standing.ensures.none_left c.in-Waiting.is c.in_ok-pass_text-in-Waiting.ensures.passed;
 }
 
-pub returns-in_default : goal.returns-in_default
-returns-in_default g c = λ shown shows.
+pub returns-in_default-clause-listed : goal.returns-in_default-clause-listed
+returns-in_default-clause-listed g c = λ shown shows.
     all_printed shown _ _ _ _ _ _ _ _ _ (g.S.Stage.lawful c.print_items.new.stage) c.in_ok-standing.ensures.none_left c.in_default.not-Waiting
     (print_more shown _ _ _ _ _ _ _ _ (c.loop.invariant.so_far shown shows) (c.in_ok-standing.ensures.printed shown shows))
-    c.in_ok-print_standing-in_default.ensures
+    c.in_ok-print_standing-in_default.ensures.printed

@@ -1,4 +1,5 @@
 use Rattle.std.proofs.Common.{[], length}
+use Rattle.std.specs.Io.Buffered.{writer_contents}
 use Rattle.mesh_stream.specs.Meaning.{unclosed}
 use Rattle.mesh_stream.specs.Calls.{SameKind}
 use Rattle.mesh_listing.specs.Lines.{IfShown}
@@ -7,8 +8,8 @@ use Rattle.mesh_listing.proofs.print.print_items.Given as goal
 
 abbrev pub invariant-loop-item : goal.invariant-loop-item
 invariant-loop-item g l = record {
-  so_far : IfShown g.I.Display.output (λ shown. Printed shown (g.S.Stage.meaning l.initial.stage) (g.W.Write.contents l.initial.out)
-      (g.S.Stage.meaning l.stage) (g.W.Write.contents l.out));
+  so_far : IfShown g.I.Display.output (λ shown. Printed shown (g.S.Stage.meaning l.initial.stage) (writer_contents g.W.Write.contents l.initial.out)
+      (g.S.Stage.meaning l.stage) (writer_contents g.W.Write.contents l.out));
   port_kept : SameKind (g.S.Stage.port l.initial.stage) (g.S.Stage.port l.stage);
 }
 
