@@ -15,7 +15,10 @@ use mesh_reader::reader::TextReader;
 use std::io::{BufWriter, Read, Write};
 
 // Prints the border list of the text that the input gives.
-fn print_border<R: Read, W: Write + Drop>(input: &mut R, out: &mut BufWriter<W>) -> anyhow::Result<()>
+fn print_border<R: Read, W: Write + Drop>(
+    input: &mut R,
+    out: &mut BufWriter<W>,
+) -> anyhow::Result<()>
     ensures listed { IfSome (R.Read.remaining input.old) (λ text. OnOk result
         (Appends (writer_contents W.Write.contents out.old) (writer_contents W.Write.contents out.new) (listing edge_text (text_border text)))) }
     ensures flushed { OnOk result (writer_buffer out.new ≡ []) }

@@ -14,7 +14,10 @@ use mesh_reader::reader::TextReader;
 use std::io::{BufWriter, Read, Write};
 
 // Prints the events of the text that the input gives.
-fn print_events<R: Read, W: Write + Drop>(input: &mut R, out: &mut BufWriter<W>) -> anyhow::Result<()>
+fn print_events<R: Read, W: Write + Drop>(
+    input: &mut R,
+    out: &mut BufWriter<W>,
+) -> anyhow::Result<()>
     ensures listed { IfSome (R.Read.remaining input.old) (λ text. OnOk result
         (Appends (writer_contents W.Write.contents out.old) (writer_contents W.Write.contents out.new) (listing event_text (reading text closed)))) }
     ensures flushed { OnOk result (writer_buffer out.new ≡ []) }

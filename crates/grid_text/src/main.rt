@@ -34,7 +34,10 @@ impl fmt::Display for TextLine {
 }
 
 // Writes all that the stage has.
-fn write_all<S: Stage<Item = Event>, W: Write + Drop>(stage: &mut S, out: &mut BufWriter<W>) -> io::Result<()>
+fn write_all<S: Stage<Item = Event>, W: Write + Drop>(
+    stage: &mut S,
+    out: &mut BufWriter<W>,
+) -> io::Result<()>
     ensures written { OnOk result (Appends (writer_contents W.Write.contents out.old) (writer_contents W.Write.contents out.new)
         (lines text_of (S.Stage.meaning stage.old [] unclosed).items)) }
     ensures flushed { OnOk result (writer_buffer out.new ≡ []) }
@@ -46,7 +49,12 @@ fn write_all<S: Stage<Item = Event>, W: Write + Drop>(stage: &mut S, out: &mut B
 }
 
 // Writes the grid with these settings.
-fn write_grid<W: Write + Drop>(columns: u32, rows: u32, step: u32, out: &mut BufWriter<W>) -> anyhow::Result<()>
+fn write_grid<W: Write + Drop>(
+    columns: u32,
+    rows: u32,
+    step: u32,
+    out: &mut BufWriter<W>,
+) -> anyhow::Result<()>
     ensures written { OnOk result (GridWritten columns rows step
         (writer_contents W.Write.contents out.old) (writer_contents W.Write.contents out.new)) }
     ensures flushed { OnOk result (writer_buffer out.new ≡ []) }
