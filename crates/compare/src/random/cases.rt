@@ -120,7 +120,7 @@ fn rules(alloc: Global, random: &mut Random) -> Made<Vec<Rule>> {
 fn events(alloc: Global, random: &mut Random, top: Top) -> Made<Vec<Event>> {
     match (random.below(200), top) {
         (0, _) => crowd(alloc, random),
-        (1..=6, Top::Border) => net(alloc, random),
+        (1..=16, Top::Border) => net(alloc, random),
         _ => {
             let steps = random.pick(&[0, 1, 3, 10, 30, 30, 60]);
             any_mesh(alloc, random, steps)

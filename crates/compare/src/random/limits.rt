@@ -54,7 +54,7 @@ fn join_all(mesh: &mut Mesh, random: &mut Random, count: u32) -> Made<()> {
 // About as many open edges as there may be.
 pub fn net(alloc: Global, random: &mut Random) -> Made<Vec<Event>> {
     let mut mesh = Mesh::new(alloc);
-    let count = random.pick(&[92, 93, 93, 94, 95]);
+    let count = random.pick(&[92, 93, 93, 94, 95, 100, 120]);
     add_vertices(&mut mesh, count)?;
     join_all(&mut mesh, random, count)?;
     for _ in 0..300 {
