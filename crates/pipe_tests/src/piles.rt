@@ -7,7 +7,7 @@ use mesh_pipe::{
 use std::process::Abort;
 use std::test::Fail;
 
-// A pile at work on the orders writes these replies into the log, which held others. Its room is so much then.
+// A pile at work on four orders writes these replies into the log, which held others. Its room is so much then.
 fn check_log(rt: &impl Abort, log: &mut [Reply<Event>], replies: &[Reply<Event>], room: usize) {
     let orders = [
         Order::Next,
@@ -16,7 +16,7 @@ fn check_log(rt: &impl Abort, log: &mut [Reply<Event>], replies: &[Reply<Event>]
         Order::Close,
     ];
     let mut pile = check(TextReader::new());
-    work_off(&mut pile, &orders, log);
+    assert_eq!(rt; work_off(&mut pile, &orders, log), replies.len().min(4));
     assert_eq!(rt; &*log, replies);
     assert_eq!(rt; pile.room(), room);
 }
