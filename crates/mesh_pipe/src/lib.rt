@@ -26,7 +26,7 @@ pub use mesh_layer::work::{ask_on, work_off};
 
 // What is made of the events in the end: border edges and reports.
 pub use mesh_border::border_list::border_list;
-pub use mesh_piles::text_report::{text_report, TextPile};
+pub use mesh_piles::text_report::{TextPile, text_report};
 pub use mesh_report::report::Report;
 pub use mesh_report::stream_report::StreamReport;
 pub use mesh_report::totals::Totals;
