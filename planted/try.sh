@@ -58,12 +58,13 @@ has_tests() {
     grep -rqF '#[test]' "crates/$1/src"
 }
 
-# Says which tests of a crate fail, if any does.
+# Says which test of a crate fails first, if any does.
 failed_tests() {
-    local said="$work/said"
+    local said="$work/said" test
     has_tests "$1" || return 0
     (cd "$copy/crates/$1" && rt try --test > "$said" 2>&1) && return 0
-    echo "the tests of $1$(grep -m 1 -oE 'test [a-z_:0-9]+.*(FAILED|failed).*' "$said" | sed 's/^/, /' || true)"
+    test=$(sed -n 's/^test \(.*\) \.\.\. FAILED$/\1/p' "$said" | head -n 1)
+    echo "the tests of $1${test:+, $test}"
 }
 
 # Says so if a program, run as the gate runs it, gives another output or status than the stored one.
@@ -113,7 +114,7 @@ try_tests() {
 # By what rt must-fail said of a bug.
 judge() {
     local bug=$1 said=$2 place
-    place=$(grep -oE '[a-z]+/[A-Za-z0-9_/]+\.(rt|antt):[0-9]+:[0-9]+' <<< "$said" | head -n 1 || true)
+    place=$(grep -oE '(src|specs|proofs)/[^: ]+:[0-9]+:[0-9]+' <<< "$said" | head -n 1 || true)
     case $said in
         "refused, as it must be (only"*) say refused "$bug" "refused by the prover, but little is said by it: ${said#*(}" ;;
         "refused, as it must be"*) say refused "$bug" "refused by the prover: $place" ;;
