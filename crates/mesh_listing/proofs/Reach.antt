@@ -3,7 +3,7 @@ use Rattle.std.proofs.Common.{◌≡◌, ◌⊎◌, inl, inr, ℕ, ◌≤◌, Li
 use Rattle.mesh_stream.specs.declared.stage.Standing.{Standing}
 use Rattle.mesh_stream.specs.declared.stage.Standing.TheVariants.{Waiting}
 use Rattle.mesh_stream.specs.Meaning.{Mark, unclosed, Outcome, outcome, prepend, Meaning, IsWaiting, Same}
-use Rattle.mesh_listing.specs.Steps.{SameStanding, Taken, PieceTaken, ReadTo, TextReadTo}
+use Rattle.mesh_listing.specs.Steps.{SameStanding, Taken, PieceTaken, TextReadTo}
 use Rattle.mesh_listing.proofs.Printing.{waits}
 
 none_after : (piece more : List ℕ) → [] ≡ piece ++ more → more ≡ []
@@ -107,10 +107,10 @@ module _ {I : Type 0} where
   reach_more (Some text) None next most F G H r none limit p = absurd r
   reach_more (Some text) (Some rest) None most F G H r none limit p = absurd p
   reach_more (Some text) (Some rest) (Some more) most F G H r none limit taken =
-    let p = subst (λ (n : ℕ). Taken n rest more G H) limit taken in elim r.now [
-    | inl end ↦ at_the_end text rest more F G H r end p
-    | inr same ↦ a_piece_more text rest more F G H r none same p
-  ]
+      let p = subst (λ (n : ℕ). Taken n rest more G H) limit taken in elim r.now [
+        | inl end ↦ at_the_end text rest more F G H r end p
+        | inr same ↦ a_piece_more text rest more F G H r none same p
+      ]
 
   -- Where it does not wait any more, the text was read so far.
   pub read_to : (known left : Option (List ℕ)) (F G : Meaning I) (s : Standing) → Reached known left F G → G [] unclosed ≡ outcome [] s

@@ -54,7 +54,8 @@ module _ {I : Type 0} where
   PieceTaken most (Some text) None G H = ⊥
   PieceTaken most (Some text) (Some rest) G H = Taken most text rest G H
 
-  -- How far a text was read for a stage that means G: to its end, or until the stage no longer waits; and before the last piece it waited.
+  -- How far a text was read for a stage that means G: to its end, or until the stage no longer waits; and without the last piece, where
+  -- anything was read, it waits.
   pub record ReadTo (text rest : List ℕ) (G : Meaning I) : Type 0 where
     pub before : List ℕ
     pub last : List ℕ

@@ -21,7 +21,7 @@ enum Listed {
     Endless,
 }
 
-// Prints what the stage means of the whole text that the input gives. It reads no further than where the stage ends or is at fault. The
+// Prints what the stage means of the whole text that the input gives. It reads no piece more once the stage has ended or is at fault. The
 // loop has a bound since an input may go on for ever; no text is so long that it takes 2^64 - 1 reads.
 fn list_until_end<I: Display + Drop, R: Read, S: Inlet<Item = I>, W: Write + Drop>(
     input: &mut R,
