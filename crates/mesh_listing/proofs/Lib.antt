@@ -1,2 +1,3 @@
 pub mod Printing
+mod Reach
 mod Turns

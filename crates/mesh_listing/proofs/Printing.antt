@@ -24,7 +24,7 @@ pub line_shown : (u v known : Option (List ℕ)) (bytes : List ℕ) → known �
     → Appends u v (line bytes)
 line_shown u v known bytes e written = subst (λ (k : Option (List ℕ)). IfSome (k ++? Some (10 ∷ [])) (Appends u v)) e written
 
-waits : (s : Standing) → IsWaiting s → s ≡ Waiting
+pub waits : (s : Standing) → IsWaiting s → s ≡ Waiting
 waits Waiting w = refl
 waits Ended w = absurd w
 waits (Faulty f) w = absurd w

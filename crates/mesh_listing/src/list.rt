@@ -3,7 +3,7 @@ ghost use Rattle.std.specs.Io.Buffered.{writer_buffer, writer_contents};
 ghost use Rattle.std.specs.Io.KnownBytes.{Appends};
 ghost use Rattle.mesh_stream.specs.Meaning.{closed};
 ghost use Rattle.mesh_listing.specs.Lines.{listing, IfShown};
-ghost use Rattle.mesh_listing.specs.Steps.{ListedAs};
+ghost use Rattle.mesh_listing.specs.Steps.{ListedAs, TextReadTo};
 
 use crate::pass::pass_text;
 use crate::print::{print_items, print_standing};
@@ -21,7 +21,7 @@ enum Listed {
     Endless,
 }
 
-// Prints what the stage means of the whole text that the input gives. It reads no further than where the stage ends or is at fault. The
+// Prints what the stage means of the whole text that the input gives. It reads no piece more once the stage has ended or is at fault. The
 // loop has a bound since an input may go on for ever; no text is so long that it takes 2^64 - 1 reads.
 fn list_until_end<I: Display + Drop, R: Read, S: Inlet<Item = I>, W: Write + Drop>(
     input: &mut R,
@@ -31,6 +31,8 @@ fn list_until_end<I: Display + Drop, R: Read, S: Inlet<Item = I>, W: Write + Dro
     ensures listed { IfShown I.output (λ shown. IfSome (R.Read.remaining input.old) (λ text. IfOk result
         (ListedAs shown text (S.Stage.meaning stage.old text closed)
         (writer_contents W.Write.contents out.old) (writer_contents W.Write.contents out.new)))) }
+    ensures read { IfOk result (λ l. l ≡ Listed.Whole →
+        TextReadTo (R.Read.remaining input.old) (R.Read.remaining input.new) (S.Stage.meaning stage.old)) }
     ensures flushed { IfOk result (λ l. l ≡ Listed.Whole → writer_buffer out.new ≡ []) }
 {
     let mut piece = [0; PIECE];
@@ -56,6 +58,8 @@ pub fn list_text<I: Display + Drop, R: Read, S: Inlet<Item = I>, W: Write + Drop
     ensures listed { IfShown I.output (λ shown. IfSome (R.Read.remaining input.old) (λ text. OnOk result
         (Appends (writer_contents W.Write.contents out.old) (writer_contents W.Write.contents out.new)
         (listing shown (S.Stage.meaning stage.old text closed))))) }
+    ensures read { OnOk result
+        (TextReadTo (R.Read.remaining input.old) (R.Read.remaining input.new) (S.Stage.meaning stage.old)) }
     ensures flushed { OnOk result (writer_buffer out.new ≡ []) }
 {
     match list_until_end(input, stage, out)? {

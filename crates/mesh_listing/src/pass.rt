@@ -1,7 +1,7 @@
 // How a text comes from what is read to a stage.
 ghost use Rattle.std.specs.Prelude.{◌≡◌, ◌≤◌, length, IfOk, OnOk};
 ghost use Rattle.mesh_stream.specs.Meaning.{room};
-ghost use Rattle.mesh_listing.specs.Steps.{PieceRead, TextPassed};
+ghost use Rattle.mesh_listing.specs.Steps.{PieceRead, PieceTaken, TextPassed};
 
 use mesh_stream::stage::Inlet;
 use std::io;
@@ -27,6 +27,8 @@ pub fn pass_text<R: Read, S: Inlet>(
     requires piece { 1 ≤ length piece.now }
     ensures passed { OnOk result (TextPassed (R.Read.remaining input.old) (R.Read.remaining input.new)
         (S.Stage.meaning stage.old) (S.Stage.port stage.new) (S.Stage.meaning stage.new)) }
+    ensures taken { OnOk result (PieceTaken (length piece.old) (R.Read.remaining input.old) (R.Read.remaining input.new)
+        (S.Stage.meaning stage.old) (S.Stage.meaning stage.new)) }
     ensures same_length { length piece.new ≡ length piece.old }
 {
     let length = read_piece(input, piece, stage.room())?;

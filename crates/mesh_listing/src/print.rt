@@ -5,7 +5,7 @@ ghost use Rattle.std.specs.Io.KnownBytes.{Appends};
 ghost use Rattle.mesh_stream.specs.Calls.{SameKind};
 ghost use Rattle.mesh_stream.specs.Shown.{standing_text};
 ghost use Rattle.mesh_listing.specs.Lines.{line, IfShown};
-ghost use Rattle.mesh_listing.specs.Steps.{Printed, Emptied};
+ghost use Rattle.mesh_listing.specs.Steps.{Printed, SameStanding, Emptied};
 
 use mesh_stream::stage::{Stage, Standing};
 use std::fmt::Display;
@@ -20,6 +20,7 @@ pub fn print_items<I: Display + Drop, S: Stage<Item = I>, W: Write + Drop>(
     ensures printed { OnOk result (IfShown I.output (λ shown. Printed shown (S.Stage.meaning stage.old) (writer_contents W.Write.contents out.old)
         (S.Stage.meaning stage.new) (writer_contents W.Write.contents out.new))) }
     ensures port_kept { SameKind (S.Stage.port stage.old) (S.Stage.port stage.new) }
+    ensures standing_kept { OnOk result (SameStanding (S.Stage.meaning stage.old) (S.Stage.meaning stage.new)) }
     ensures flushed { OnOk result (writer_buffer out.new ≡ []) }
     ensures none_left { IfOk result (λ s. Emptied s (S.Stage.port stage.new) (S.Stage.meaning stage.new)) }
 {
