@@ -41,3 +41,4 @@ pub use Rattle.mesh_report.specs.Streaming
 pub use Rattle.mesh_piles.specs.Texts
 -- Listings.
 pub use Rattle.mesh_listing.specs.Lines
+pub use Rattle.mesh_listing.specs.Steps
