@@ -20,7 +20,8 @@ fn print_border<R: Read, W: Write + Drop>(
     out: &mut BufWriter<W>,
 ) -> anyhow::Result<()>
     ensures listed { IfSome (R.Read.remaining input.old) (λ text. OnOk result
-        (Appends (writer_contents W.Write.contents out.old) (writer_contents W.Write.contents out.new) (listing edge_text (text_border text)))) }
+        (Appends (writer_contents W.Write.contents out.old) (writer_contents W.Write.contents out.new)
+        (listing edge_text (text_border text)))) }
     ensures flushed { OnOk result (writer_buffer out.new ≡ []) }
 {
     let mut border = border_list(check(TextReader::new()));

@@ -19,7 +19,8 @@ fn print_events<R: Read, W: Write + Drop>(
     out: &mut BufWriter<W>,
 ) -> anyhow::Result<()>
     ensures listed { IfSome (R.Read.remaining input.old) (λ text. OnOk result
-        (Appends (writer_contents W.Write.contents out.old) (writer_contents W.Write.contents out.new) (listing event_text (reading text closed)))) }
+        (Appends (writer_contents W.Write.contents out.old) (writer_contents W.Write.contents out.new)
+        (listing event_text (reading text closed)))) }
     ensures flushed { OnOk result (writer_buffer out.new ≡ []) }
 {
     let mut reader = TextReader::new();

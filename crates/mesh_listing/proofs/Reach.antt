@@ -1,5 +1,5 @@
 -- How far a text was read, and what the stage means by then.
-use Rattle.std.proofs.Common.{◌≡◌, ◌⊎◌, inl, inr, ℕ, ◌≤◌, List, [], ◌∷◌, ◌++◌, length, Option, Some, None, refl, sym, ap, ◌∙◌, subst, append_assoc, append-nil, arith}
+use Rattle.std.proofs.Common.{◌≡◌, ◌⊎◌, inl, inr, ℕ, ◌≤◌, List, [], ◌∷◌, ◌++◌, length, Option, Some, None, sym, ap, ◌∙◌, subst, append_assoc, append-nil}
 use Rattle.mesh_stream.specs.declared.stage.Standing.{Standing}
 use Rattle.mesh_stream.specs.declared.stage.Standing.TheVariants.{Waiting}
 use Rattle.mesh_stream.specs.Meaning.{Mark, unclosed, Outcome, outcome, prepend, Meaning, IsWaiting, Same}
@@ -28,25 +28,16 @@ module _ {I : Type 0} where
   Reached (Some text) None F G = ⊥
   Reached (Some text) (Some rest) F G = ReachedTo text rest F G
 
-  pub nothing_read : (known : Option (List ℕ)) (F : Meaning I) → Reached known known F F
-  nothing_read None F = tt
-  nothing_read (Some text) F = record {
-    before = [];
-    last = [];
-    bytes = refl;
-    few = omega arith;
-    waited = inl refl;
-    now = inr (λ t. refl);
-  }
-
-  pub standing_more : (F G H : Meaning I) (i : I) → SameStanding F G → ((t : List ℕ) (m : Mark) → G t m ≡ prepend i (H t m)) → SameStanding F H
+  pub standing_more : (F G H : Meaning I) (i : I) → SameStanding F G
+      → ((t : List ℕ) (m : Mark) → G t m ≡ prepend i (H t m)) → SameStanding F H
   standing_more F G H i kept first = record { stands = λ t m. kept.stands t m ∙ ap stands_of (first t m) }
 
   pub standing_still : (F G H : Meaning I) → SameStanding F G → Same G H → SameStanding F H
   standing_still F G H kept same = record { stands = λ t m. kept.stands t m ∙ sym (ap stands_of (same t m)) }
 
   -- What is printed changes nothing of how the stage stands.
-  pub reach_printed : (known left : Option (List ℕ)) (F G H : Meaning I) → Reached known left F G → SameStanding G H → Reached known left F H
+  pub reach_printed : (known left : Option (List ℕ)) (F G H : Meaning I) → Reached known left F G → SameStanding G H
+      → Reached known left F H
   reach_printed None left F G H r kept = tt
   reach_printed (Some text) None F G H r kept = absurd r
   reach_printed (Some text) (Some rest) F G H r kept = record {

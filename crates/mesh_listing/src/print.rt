@@ -17,7 +17,8 @@ pub fn print_items<I: Display + Drop, S: Stage<Item = I>, W: Write + Drop>(
     stage: &mut S,
     out: &mut BufWriter<W>,
 ) -> io::Result<Standing>
-    ensures printed { OnOk result (IfShown I.output (λ shown. Printed shown (S.Stage.meaning stage.old) (writer_contents W.Write.contents out.old)
+    ensures printed { OnOk result (IfShown I.output (λ shown. Printed shown
+        (S.Stage.meaning stage.old) (writer_contents W.Write.contents out.old)
         (S.Stage.meaning stage.new) (writer_contents W.Write.contents out.new))) }
     ensures port_kept { SameKind (S.Stage.port stage.old) (S.Stage.port stage.new) }
     ensures standing_kept { OnOk result (SameStanding (S.Stage.meaning stage.old) (S.Stage.meaning stage.new)) }

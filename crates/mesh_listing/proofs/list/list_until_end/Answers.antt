@@ -21,7 +21,8 @@ loop-preserved g c = record {
 
 pub returns-in_default-clause-listed : goal.returns-in_default-clause-listed
 returns-in_default-clause-listed g c = λ shown shows.
-    all_printed shown _ _ _ _ _ _ _ _ _ (g.S.Stage.lawful c.print_items.new.stage) c.in_ok-standing.ensures.none_left c.in_default.not-Waiting
+    all_printed shown _ _ _ _ _ _ _ _ _ (g.S.Stage.lawful c.print_items.new.stage) c.in_ok-standing.ensures.none_left
+    c.in_default.not-Waiting
     (print_more shown _ _ _ _ _ _ _ _ (c.loop.invariant.so_far shown shows) (c.in_ok-standing.ensures.printed shown shows))
     c.in_ok-print_standing-in_default.ensures.printed
 

@@ -8,8 +8,8 @@ use Rattle.mesh_listing.proofs.print.print_items.Given as goal
 
 abbrev pub invariant-loop-item : goal.invariant-loop-item
 invariant-loop-item g l = record {
-  so_far : IfShown g.I.Display.output (λ shown. Printed shown (g.S.Stage.meaning l.initial.stage) (writer_contents g.W.Write.contents l.initial.out)
-      (g.S.Stage.meaning l.stage) (writer_contents g.W.Write.contents l.out));
+  so_far : IfShown g.I.Display.output (λ shown. Printed shown (g.S.Stage.meaning l.initial.stage)
+      (writer_contents g.W.Write.contents l.initial.out) (g.S.Stage.meaning l.stage) (writer_contents g.W.Write.contents l.out));
   port_kept : SameKind (g.S.Stage.port l.initial.stage) (g.S.Stage.port l.stage);
   standing_kept : SameStanding (g.S.Stage.meaning l.initial.stage) (g.S.Stage.meaning l.stage);
 }
