@@ -7,7 +7,11 @@ ghost use Rattle.std.specs.Io.KnownBytes.{Appends};
 ghost use Rattle.mesh_stream.specs.Meaning.{unclosed};
 ghost use Rattle.mesh_listing.specs.Lines.{lines};
 ghost use Rattle.grid_text.specs.GridText.{text_of, GridWritten};
+ghost use Rattle.grid_text.specs.Settings.{GridOfWordsWritten};
 
+mod settings;
+
+use crate::settings::Settings;
 use mesh_bottoms::grid::Grid;
 use mesh_stream::event::{Event, Point};
 use mesh_stream::stage::Stage;
@@ -64,19 +68,20 @@ fn write_grid<W: Write + Drop>(
     Ok(())
 }
 
-// The settings on the command line; any that is missing is 0, which no grid allows.
-fn settings(rt: &HostRuntime) -> anyhow::Result<[u32; 3]> {
-    let mut settings = [0; 3];
-    for (setting, word) in settings.iter_mut().zip(env::args(rt)?.skip(1)) {
-        *setting = word.as_str().parse::<u32>()?;
-    }
-    Ok(settings)
+// Writes the grid with the settings on this command line, of which the first word is the program's name.
+fn write_grid_of<W: Write + Drop>(words: &[String], out: &mut BufWriter<W>) -> anyhow::Result<()>
+    ensures written { OnOk result (GridOfWordsWritten words.now
+        (writer_contents W.Write.contents out.old) (writer_contents W.Write.contents out.new)) }
+    ensures flushed { OnOk result (writer_buffer out.new ≡ []) }
+{
+    let settings = Settings::of(words)?;
+    write_grid(settings.columns, settings.rows, settings.step, out)
 }
 
 fn run(rt: &HostRuntime) -> anyhow::Result<()> {
-    let [columns, rows, step] = settings(rt)?;
+    let words: Vec<String> = env::args(rt)?.collect(rt.alloc())?;
     let mut out = BufWriter::new(rt.alloc(), rt.stdout())?;
-    write_grid(columns, rows, step, &mut out)
+    write_grid_of(&words, &mut out)
 }
 
 fn main(rt: HostRuntime) -> anyhow::Result<()> {
