@@ -2,16 +2,17 @@
 use Rattle.std.proofs.Common.{◌≡◌, ℕ, ◌+◌, ◌-◌, ◌≤◌, min, max, Bool, true, false, cond, ◌&&◌, ◌||◌, ◌==◌, [], ◌∷◌, is_some, Some, None, Option, ⊎_elim, refl, sym, ap, subst, ◌∙◌, arith}
 use Rattle.std.proofs.Math.Nat.{min_comm, max_comm}
 use Rattle.std.proofs.lemmas.Bool.{both_ways, leb-true}
+use Rattle.std.proofs.lemmas.Option.{none-some}
 use Rattle.std.proofs.lemmas.Bool.Decides.{nat_tests}
 use Rattle.mesh_table.specs.declared.key.Key.{Key}
 use Rattle.mesh_table.specs.declared.table.Table.{Table}
 use Rattle.mesh_table.specs.Keys.{edge_key}
-use Rattle.mesh_table.specs.Tables.{record_at, records, Sets, Removed}
+use Rattle.mesh_table.specs.Tables.{record_at, records, Sets, Removed, Changed}
 use Rattle.mesh_edges.specs.declared.edge.Edge.{Edge}
 use Rattle.mesh_edges.specs.Bordering.{edge, all_different, uses_of}
 use Rattle.mesh_edge_windows.specs.declared.open_edge.OpenEdge.{OpenEdge}
 use Rattle.mesh_edge_windows.specs.Uses.{used_by, first_used, used_again}
-use Rattle.mesh_edge_windows.specs.Edges.{Edges, joins, newly, use_edge, use_all}
+use Rattle.mesh_edge_windows.specs.Edges.{Edges, no_edges, joins, newly, use_edge, use_all}
 use Rattle.mesh_edge_windows.proofs.Joining.{joins_cases}
 use Rattle.mesh_edge_windows.proofs.Opening.{edges_same}
 use Rattle.mesh_border.specs.declared.open_edges.OpenEdges.{OpenEdges}
@@ -87,14 +88,23 @@ pub changed_edge : (o : OpenEdges) (u : Table OpenEdge 8192) (e : Edge) (k : Key
     → Sets o.table u k (Some w) → edges_of (record { table = u }) ≡ use_edge (edges_of o) e
 changed_edge o u e k f x w p q d a m s = used o.table u e k (Some x) w p (sym q ∙ d) a (omega (arith, m)) s
 
+pub changed_open : (o : OpenEdges) (u : Table OpenEdge 8192) (e : Edge) (k : Key) (f : Option OpenEdge) (x w : OpenEdge) (b : Bool)
+    → Changed o.table u k w b → k ≡ edge_key e.from e.to → f ≡ record_at o.table k → f ≡ Some x → w ≡ used_again x
+    → edges_of (record { table = u }) ≡ use_edge (edges_of o) e
+changed_open o u e k f x w true (h, m, s) p q d a = changed_edge o u e k f x w p q d a m s
+changed_open o u e k f x w false (h, s) p q d a = absurd (none-some x (sym h ∙ sym q ∙ d))
+
+pub none_open : (u : Table OpenEdge 8192) → records u ≡ 0 → ((q : Key) → record_at u q ≡ None) → edges_of (record { table = u }) ≡ no_edges
+none_open u c n = edges_same (edges_of (record { table = u })) no_edges (λ a b. n (edge_key a b)) c
+
 pub inserted_edge : (o : OpenEdges) (u : Table OpenEdge 8192) (e : Edge) (k : Key) (f : Option OpenEdge) (w : OpenEdge)
     → k ≡ edge_key e.from e.to → f ≡ record_at o.table k → f ≡ None → w ≡ first_used e → records u ≡ records o.table + 1
     → Sets o.table u k (Some w) → edges_of (record { table = u }) ≡ use_edge (edges_of o) e
 inserted_edge o u e k f w p q d a m s = used o.table u e k None w p (sym q ∙ d) a m s
 
-pub closed_edge : (o : OpenEdges) (u : Table OpenEdge 8192) (k : Key) (a b : ℕ) (r : Option OpenEdge) → k ≡ edge_key a b
-    → Removed o.table u k r → TakenOut o a b r (record { table = u })
-closed_edge o u k a b r q h = record {
+pub closed_edge : (o : OpenEdges) (u : Table OpenEdge 8192) (k : Key) (a b : ℕ) (r : Option OpenEdge) → Removed o.table u k r
+    → k ≡ edge_key a b → TakenOut o a b r (record { table = u })
+closed_edge o u k a b r h q = record {
   was = h.0 ∙ ap (record_at o.table) q;
   edges = taken o.table u k a b r q h;
   most = h.2.limit;

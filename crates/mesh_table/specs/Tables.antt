@@ -4,13 +4,13 @@
 --     limit_of t      how many there may be
 --     Sets t u k w    u is t, with w at k
 --     Kept t u        u is t
-use Rattle.std.specs.Prelude.{◌≡◌, ℕ, ◌+◌, ◌^◌, ◌<◌, ◌≤◌, Bool, true, false, cond, ◌&&◌, is_some, Some, None, Ok, Err, Option, Result, ◌≢◌, nat_le, nat_lt}
+use Rattle.std.specs.Prelude.{◌≡◌, ℕ, ◌+◌, ◌^◌, ◌<◌, ◌≤◌, Bool, true, false, cond, ◌&&◌, length, is_some, Some, None, Ok, Err, Option, Result, ◌≢◌, nat_le, nat_lt}
 use Rattle.mesh_table.specs.declared.key.Key.{Key}
 use Rattle.mesh_table.specs.declared.table.InsertError.{InsertError}
 use Rattle.mesh_table.specs.declared.table.InsertError.TheVariants.{KeyPresent, AtLimit}
 use Rattle.mesh_table.specs.declared.table.Table.{Table}
 use Rattle.mesh_table.specs.Keys.{vertex_key}
-use Rattle.mesh_table.specs.Probing.{lookup}
+use Rattle.mesh_table.specs.Probing.{lookup, size, Distinct, Reached}
 
 abbrev pub record_at : {V : Type 0} {n : ℕ} → Table V n → Key → Option V
 record_at t k = lookup t.slots k
@@ -20,6 +20,17 @@ records t = t.count
 
 abbrev pub limit_of : {V : Type 0} {n : ℕ} → Table V n → ℕ
 limit_of t = t.limit
+
+-- What holds of every table: no key stands twice, no search breaks off before its key, and there are no more records than may be.
+pub record OfEveryTable {V : Type 0} {n : ℕ} (t : Table V n) : Type 0 where
+  pub some_slots : 0 < n
+  pub few_slots : n < 2 ^ 32
+  pub long : length t.slots ≡ n
+  pub distinct : Distinct t.slots
+  pub reached : Reached n t.slots
+  pub counted : size t.slots ≡ records t
+  pub few : records t ≤ limit_of t
+  pub served : limit_of t ≤ n
 
 pub record Sets {V : Type 0} {n : ℕ} (t u : Table V n) (k : Key) (w : Option V) : Type 0 where
   pub here : record_at u k ≡ w

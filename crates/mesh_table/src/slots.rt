@@ -1,4 +1,4 @@
-ghost use Rattle.std.specs.Prelude.{◌≡◌, List, ◌+◌, ◌^◌, ◌<◌, is_some, if◌then◌else◌, Some, None};
+ghost use Rattle.std.specs.Prelude.{◌≡◌, List, ◌+◌, ◌^◌, ◌<◌, length, is_some, if◌then◌else◌, Some, None};
 ghost use Rattle.mesh_table.specs.Probing.{Slot, slot_at, lookup, size, value_in, Sought, EndsAt, Sound, Becomes};
 
 use crate::key::Key;
@@ -26,6 +26,8 @@ impl<V: Copy, const N: usize> Slots<V, N> {
     pub(crate) fn empty() -> Slots<V, N>
         requires has_slots { 0 < N }
         requires few_slots { N < 2 ^ 32 }
+        ensures long { length result ≡ N }
+        ensures sound { Sound N result }
         ensures counted { size result ≡ 0 }
         ensures bare { (q : Key) → lookup result q ≡ None }
     {
@@ -51,6 +53,8 @@ impl<V: Copy, const N: usize> Slots<V, N> {
     // Puts a value at a key, into the slot that a search for the key came to.
     pub(crate) fn set(&mut self, i: SlotNumber<N>, key: Key, value: V)
         requires { EndsAt N self.old key i }
+        ensures long { length self.new ≡ N }
+        ensures sound { Sound N self.new }
         ensures becomes { Becomes self.old self.new key (Some value) }
         ensures counted { size self.new + (if is_some (lookup self.old key) then 1 else 0) ≡ size self.old + 1 }
     {
@@ -60,6 +64,8 @@ impl<V: Copy, const N: usize> Slots<V, N> {
     // Takes out the record at a key, if there is one.
     pub(crate) fn remove(&mut self, key: Key) -> Option<V>
         ensures value { result ≡ lookup self.old key }
+        ensures long { length self.new ≡ N }
+        ensures sound { Sound N self.new }
         ensures becomes { Becomes self.old self.new key None }
         ensures counted { size self.new + (if is_some result then 1 else 0) ≡ size self.old }
     {

@@ -1,8 +1,9 @@
-ghost use Rattle.std.specs.Prelude.{◌≡◌, ◌≤◌};
-ghost use Rattle.mesh_table.specs.Probing.{size};
+ghost use Rattle.std.specs.Prelude.{◌≡◌, ◌^◌, ◌<◌, ◌≤◌, length};
+ghost use Rattle.mesh_table.specs.Probing.{size, Distinct, Reached};
 
 use crate::slots::Slots;
 
+pub mod facts;
 mod lookup;
 mod show;
 mod start;
@@ -16,7 +17,10 @@ pub struct Table<V, const N: usize> {
     slots: Slots<V, N>,
     count: usize,
     limit: usize,
+    ghost within: { (0 < N) × (N < 2 ^ 32) × (length slots ≡ N) },
     ghost counted: { (size slots ≡ count) × (count ≤ limit) × (limit ≤ N) },
+    ghost distinct: { Distinct slots },
+    ghost reached: { Reached N slots },
 }
 
 // Why a record is not taken in.

@@ -10,7 +10,6 @@ use mesh_table::key::Key;
 
 impl OpenEdges {
     // Closes the edge between two vertices, if it is open, and answers what was kept of it.
-    #[tactic(auto, using(crate::proofs::Edging::closed_edge))]
     fn close(&mut self, a: u32, b: u32) -> Option<OpenEdge>
         ensures { TakenOut self.old a b result self.new }
     {

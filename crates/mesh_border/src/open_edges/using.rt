@@ -17,6 +17,7 @@ fn all_different(a: u32, b: u32, c: u32) -> bool
 }
 
 impl OpenEdges {
+    #[tactic(auto, using(crate::proofs::Edging::none_open))]
     pub(crate) fn new() -> OpenEdges
         ensures none { edges_of result ≡ no_edges }
         ensures most { most_of result ≡ 4096 }
@@ -55,7 +56,7 @@ impl OpenEdges {
     }
 
     // Uses an edge, for which there has to be room.
-    #[tactic(auto, using(crate::proofs::Edging::changed_edge, crate::proofs::Edging::inserted_edge))]
+    #[tactic(auto, using(crate::proofs::Edging::inserted_edge))]
     fn use_edge(&mut self, edge: Edge)
         requires { (edges_of self.old).count + newly (edges_of self.old) edge.from edge.to ≤ most_of self.old }
         ensures used { edges_of self.new ≡ use_edge (edges_of self.old) edge }

@@ -20,3 +20,6 @@ returns-clause-becomes g c = (after g c).becomes
 
 pub returns-clause-counted : goal.returns-clause-counted
 returns-clause-counted g c = (after g c).counted
+
+pub returns-clause-sound : goal.returns-clause-sound
+returns-clause-sound g c = (after g c).sound
