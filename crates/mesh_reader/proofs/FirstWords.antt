@@ -1,8 +1,7 @@
 -- The first word of a line.
-use Rattle.std.proofs.Common.{◌≡◌, ℕ, Bool, true, false, ◌==◌, List, [], ◌∷◌, Some, None, sym, refl, ap, ◌∙◌}
+use Rattle.std.proofs.Common.{◌≡◌, ℕ, Bool, true, false, ◌==◌, List, [], ◌∷◌, Some, None, sym, refl, ap, ◌∙◌, subst}
 use Rattle.std.proofs.lemmas.Bool.{both_ways, not-true, eq-eqb, ne_eqb}
 use Rattle.mesh_reader.specs.declared.content.FirstWord.TheVariants.{Missing, Comment, Letter, Other}
-use Rattle.mesh_reader.specs.Text.{line_end}
 use Rattle.mesh_reader.specs.Scanning.{separates, in_word, front, behind, past_blanks, at_word_end, rest_words, SameLine, NextIf}
 use Rattle.mesh_reader.specs.Reading.{first_word, behind_first, by_first_byte}
 use Rattle.mesh_reader.specs.Lines.{Begun}
@@ -12,7 +11,7 @@ use Rattle.mesh_reader.proofs.Words.{blanks_off, byte_off, words_past, no_word, 
 module _ (old at new : List ℕ) (passed : at ≡ past_blanks old) where
   pub missing : NextIf in_word at None new → Begun old Missing new
   missing (e, stays) = record {
-    same = ap (behind line_end) stays ∙ blanks_off old at passed;
+    same = subst (SameLine old) (sym stays) (blanks_off old at passed);
     is = sym (ap first_word (no_word old (ap at_word_end (sym passed) ∙ word_ends at e)));
     left = tt;
   }

@@ -1,5 +1,5 @@
 -- The words of a line, as it is gone through from left to right.
-use Rattle.std.proofs.Common.{◌≡◌, ℕ, suc, ◌+◌, ◌<◌, ◌≤◌, Bool, true, false, cond, ◌||◌, ◌==◌, not, is_some, ◌⊎◌, List, [], ◌∷◌, ◌++◌, length, take, map, filter, Some, None, Option, sym, refl, ap, ◌∙◌, inl, inr, arith, append-nil, append_assoc, length-append}
+use Rattle.std.proofs.Common.{◌≡◌, ℕ, suc, ◌+◌, ◌<◌, ◌≤◌, Bool, true, false, cond, ◌||◌, ◌==◌, not, is_some, ◌⊎◌, List, [], ◌∷◌, ◌++◌, length, take, map, filter, Some, None, Option, sym, refl, ap, ◌∙◌, subst, inl, inr, arith, append-nil, append_assoc, length-append}
 use Rattle.std.specs.List.{onto_first, All}
 use Rattle.std.proofs.Math.ListN.{set}
 use Rattle.std.proofs.lemmas.List.{take_all, take_more_set}
@@ -68,28 +68,42 @@ unstopped stops (b ∷ bs) = by (stops b) refl (unstopped stops bs)
     by false e later = All-cons (λ c. stops c ≡ false) b (front stops bs) e later
 
 -- What stops at a line end stays within the line.
-behind_line : (stops : ℕ → Bool) → ((b : ℕ) → line_end b ≡ true → stops b ≡ true) → (bs : List ℕ) → SameLine bs (behind stops bs)
+behind_line : (stops : ℕ → Bool) → ((b : ℕ) → line_end b ≡ true → stops b ≡ true) → (bs : List ℕ) → behind line_end (behind stops bs) ≡ behind line_end bs
 behind_line stops h [] = refl
 behind_line stops h (b ∷ bs) = by (stops b) (line_end b) refl refl (behind_line stops h bs)
   where
-    by : (s e : Bool) → stops b ≡ s → line_end b ≡ e → SameLine bs (behind stops bs) → behind line_end (cond (stops b) (b ∷ bs) (behind stops bs)) ≡ behind line_end (b ∷ bs)
+    by : (s e : Bool) → stops b ≡ s → line_end b ≡ e → behind line_end (behind stops bs) ≡ behind line_end bs → behind line_end (cond (stops b) (b ∷ bs) (behind stops bs)) ≡ behind line_end (b ∷ bs)
     by true e p q later = ap (λ t. behind line_end (cond t (b ∷ bs) (behind stops bs))) p
     by false true p q later = absurd (both_ways (stops b) p (h b q))
     by false false p q later =
         ap (λ t. behind line_end (cond t (b ∷ bs) (behind stops bs))) p ∙ later ∙ sym (ap (λ t. cond t (b ∷ bs) (behind line_end bs)) q)
 
+up_to : (stops : ℕ → Bool) → ((b : ℕ) → line_end b ≡ true → stops b ≡ true) → (bs : List ℕ) → SameLine bs (behind stops bs)
+up_to stops h bs = record { passed = front stops bs; later = sym (front_behind stops bs); stays = behind_line stops h bs }
+
+pub same_further : (old at new : List ℕ) → SameLine old at → SameLine at new → SameLine old new
+same_further old at new p q = record {
+  passed = p.passed ++ q.passed;
+  later = p.later ∙ ap (λ (xs : List ℕ). p.passed ++ xs) q.later ∙ sym (append_assoc p.passed q.passed new);
+  stays = q.stays ∙ p.stays;
+}
+
 pub same_word : (bs : List ℕ) → SameLine bs (behind separates bs)
-same_word = behind_line separates (λ b e. ap (λ t. blank b || t) e ∙ or_true (blank b))
+same_word = up_to separates (λ b e. ap (λ t. blank b || t) e ∙ or_true (blank b))
   where
     or_true : (t : Bool) → t || true ≡ true
     or_true true = refl
     or_true false = refl
 
 pub same_byte : (b : ℕ) (bs : List ℕ) → separates b ≡ false → SameLine (b ∷ bs) bs
-same_byte b bs e = sym (ap (λ t. cond t (b ∷ bs) (behind line_end bs)) (or_parts (blank b) (line_end b) e).1)
+same_byte b bs e = record {
+  passed = b ∷ [];
+  later = refl;
+  stays = sym (ap (λ t. cond t (b ∷ bs) (behind line_end bs)) (or_parts (blank b) (line_end b) e).1);
+}
 
 pub same_blanks : (bs : List ℕ) → SameLine bs (past_blanks bs)
-same_blanks = behind_line (λ b. not (blank b)) (λ b e. ap not (end_not_blank b e))
+same_blanks = up_to (λ b. not (blank b)) (λ b e. ap not (end_not_blank b e))
 
 -- One blank on.
 words_blank : (b : ℕ) (bs : List ℕ) → blank b ≡ true → words (b ∷ bs) ≡ words bs
@@ -180,13 +194,13 @@ one_next old at new n p e q v =
     ∙ ap (λ (m : Option Numeral). m ∷ rest_numerals new) (sym v)
 
 pub blanks_off : (old at : List ℕ) → at ≡ past_blanks old → SameLine old at
-blanks_off old at p = ap (behind line_end) p ∙ same_blanks old
+blanks_off old at p = subst (SameLine old) (sym p) (same_blanks old)
 
 pub byte_off : (old at new : List ℕ) (b : ℕ) → at ≡ past_blanks old → separates b ≡ false → at ≡ b ∷ new → SameLine old new
-byte_off old at new b p e q = same_byte b new e ∙ ap (behind line_end) (sym q) ∙ blanks_off old at p
+byte_off old at new b p e q = same_further old at new (blanks_off old at p) (subst (λ (xs : List ℕ). SameLine xs new) (sym q) (same_byte b new e))
 
 pub word_off : (old at new : List ℕ) → at ≡ past_blanks old → new ≡ behind separates at → SameLine old new
-word_off old at new p q = ap (behind line_end) q ∙ same_word at ∙ blanks_off old at p
+word_off old at new p q = same_further old at new (blanks_off old at p) (subst (SameLine at) (sym q) (same_word at))
 
 -- One word more is read.
 pub read_more : {A : Type 0} → (i : ℕ) (ws all rest more : List A) (w : A) → i < length ws → all ≡ take i ws ++ rest → rest ≡ w ∷ more → all ≡ take (i + 1) (set ws i w) ++ more

@@ -1,5 +1,5 @@
 -- A line as it is gone through from left to right: each list of bytes is what is left of the text from some place of the line on.
-use Rattle.std.specs.Prelude.{◌≡◌, ℕ, zero, suc, ◌+◌, ◌-◌, ◌*◌, Bool, true, false, cond, ◌||◌, not, List, [], ◌∷◌, map, Some, None, Option}
+use Rattle.std.specs.Prelude.{◌≡◌, ℕ, zero, suc, ◌+◌, ◌-◌, ◌*◌, Bool, true, false, cond, ◌||◌, not, List, [], ◌∷◌, ◌++◌, map, Some, None, Option}
 use Rattle.mesh_reader.specs.declared.numeral.Numeral.{Numeral}
 use Rattle.mesh_reader.specs.Text.{blank, line_end, words}
 use Rattle.mesh_reader.specs.Numerals.{digit, has_minus, numeral}
@@ -38,9 +38,11 @@ rest_words bytes = words (front line_end bytes)
 abbrev pub rest_numerals : List ℕ → List (Option Numeral)
 rest_numerals bytes = map numeral (rest_words bytes)
 
--- The line is not left: what stands behind it stays.
-abbrev pub SameLine : List ℕ → List ℕ → Type 0
-SameLine old new = behind line_end new ≡ behind line_end old
+-- On from one place of the line to another: what is left is a later part of what was left, and what stands behind the line stays.
+pub record SameLine (old new : List ℕ) : Type 0 where
+  pub passed : List ℕ
+  pub later : old ≡ passed ++ new
+  pub stays : behind line_end new ≡ behind line_end old
 
 -- The next byte is of a kind.
 abbrev pub begins : (ℕ → Bool) → List ℕ → Bool

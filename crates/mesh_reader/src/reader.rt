@@ -1,3 +1,6 @@
+ghost use Rattle.std.specs.Prelude.{◌≤◌, length};
+
+pub mod facts;
 pub mod inlet;
 mod start;
 
@@ -11,4 +14,5 @@ pub struct TextReader {
     next: Numbers,
     // a flag, since feed and close of a closed reader must answer, at run time, that they are refused
     closed: bool,
+    ghost within: { length kept ≤ 4096 },
 }

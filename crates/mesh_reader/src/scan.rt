@@ -48,16 +48,18 @@ fn is_separator(byte: u8) -> bool
 }
 
 impl Rest<'_> {
-    // Past all before the next byte of this kind.
+    // Past all before the next byte of this kind. A copy is gone through, since the compiler keeps a copy in registers.
     fn skip_to<F: Fn(u8) -> bool>(&mut self, stops: F)
         requires { F.IsAlwaysCallable stops }
         ensures { (kind : ℕ → Bool) → IsTest (F.post stops) kind → self.new ≡ behind kind self.old }
     {
-        while let [byte, after @ ..] = self.bytes
+        let mut bytes = self.bytes;
+        while let [byte, after @ ..] = bytes
             && !stops(*byte)
         {
-            self.bytes = after;
+            bytes = after;
         }
+        self.bytes = bytes;
     }
 
     pub(crate) fn skip_blanks(&mut self)
@@ -124,18 +126,20 @@ impl Rest<'_> {
         self.next_if(is_minus).is_some()
     }
 
-    // The number that the next digits say, so many of them at the most.
+    // The number that the next digits say, so many of them at the most. These too are gone through by a copy.
     fn digits(&mut self, most: usize) -> u32
         requires { most ≤ 9 }
         ensures { leading most 0 self.old ≡ (result, self.new) }
     {
+        let mut rest = Rest { bytes: self.bytes };
         let mut value = 0;
         for _ in 0..most {
-            let Some(digit) = self.next_digit() else {
+            let Some(digit) = rest.next_digit() else {
                 break;
             };
             value = 10 * value + u32::from(digit - b'0');
         }
+        self.bytes = rest.bytes;
         value
     }
 

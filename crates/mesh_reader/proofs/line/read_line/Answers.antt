@@ -5,7 +5,7 @@ use Rattle.mesh_reader.proofs.Words.{front_length}
 use Rattle.mesh_reader.proofs.line.read_line.Goals as goal
 
 lengths : (c : goal.After-rest) → length c.rest.inside.bytes.now ≡ length (behind line_end c.args.bytes.now)
-lengths c = ap length (c.rest.view_is ∙ c.skip_line.ensures ∙ c.content-content.ensures.same)
+lengths c = ap length (c.rest.view_is ∙ c.skip_line.ensures ∙ c.content-content.ensures.same.stays)
 
 pub overflow_sub-result : goal.overflow_sub-result
 overflow_sub-result c = let l = lengths c in let f = front_length line_end c.args.bytes.now in omega arith
