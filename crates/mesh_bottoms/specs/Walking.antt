@@ -19,6 +19,11 @@ parts_behind FinalizationOfQ = 2
 parts_behind FinalizationOfM = 1
 parts_behind FinalizationOfN = 0
 
+-- how many parts are left from the next one on, if there is one
+abbrev pub parts_left : Option Part → ℕ
+parts_left (Some part) = parts_behind part + 1
+parts_left None = 0
+
 module _ (w h s : ℕ) where
   -- of row r, the columns from c on
   abbrev pub row_from : ℕ → ℕ → List Event
@@ -29,6 +34,10 @@ module _ (w h s : ℕ) where
   rows_from r = flat_map (grid_row w h s) (range_with_len r (h - r))
 
 module _ (p : Position) where
+  -- In the first row and the first column only the vertex comes.
+  abbrev pub Inner : Part → Type 0
+  Inner part = parts_behind part < 6 → (1 ≤ p.row) × (1 ≤ p.column)
+
   -- the number of its vertex
   abbrev pub number_of : ℕ
   number_of = p.row * p.columns + p.column + 1
@@ -98,6 +107,14 @@ pub record Neighbours (p next : Position) : Type 0 where
   pub left : left_from next NewVertex ≡ behind p
   pub number : number_of next ≡ number_of p + 1
 
-abbrev pub PositionFollows : Position → Option Position → Type 0
-PositionFollows p (Some next) = Neighbours p next
-PositionFollows p None = behind p ≡ []
+-- The last position, which stays, and behind which nothing comes.
+pub record Last (p next : Position) : Type 0 where
+  pub left : behind p ≡ []
+  pub stays : next ≡ p
+  pub row_inner : 1 ≤ p.row
+  pub column_inner : 1 ≤ p.column
+
+-- the first part of the position that comes next, if one does
+abbrev pub PositionPassed : Position → Option Part → Position → Type 0
+PositionPassed p (Some part) next = (part ≡ NewVertex) × Neighbours p next
+PositionPassed p None next = Last p next

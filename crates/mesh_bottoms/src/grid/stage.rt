@@ -10,15 +10,18 @@ use mesh_stream::stage::{Stage, Standing};
 impl Stage for Grid {
     type Item = Event;
 
-    ghost meaning = { λ g t m. outcome (events_from g.next) Ended };
+    ghost meaning = { λ g t m. outcome (events_from g) Ended };
 
     ghost port = { λ g. textless };
 
-    ghost lawful = { λ g. ended_lawful (events_from g.next) };
+    ghost lawful = { λ g. ended_lawful (events_from g) };
 
+    // inlined, so that the position stays in registers where a caller draws event after event
+    #[inline(always)]
     fn next(&mut self) -> Result<Event, Standing> {
-        let cursor = self.next.ok_or(Standing::Ended)?;
-        self.next = cursor.after();
-        Ok(cursor.event())
+        let part = self.part.ok_or(Standing::Ended)?;
+        let event = self.position.event(part, self.place);
+        self.advance(part);
+        Ok(event)
     }
 }

@@ -3,9 +3,9 @@ ghost use Rattle.mesh_bottoms.specs.Gridding.{grid_allowed};
 ghost use Rattle.mesh_bottoms.specs.Starting.{Made};
 ghost use Rattle.mesh_bottoms.specs.contracts.grid.stage.GridStage.TheImpl.{ghosts as gridding};
 
+use crate::grid::Grid;
 use crate::grid::part::Part;
 use crate::grid::position::Position;
-use crate::grid::{Cursor, Grid};
 use mesh_stream::fault::Refusal;
 
 // The most columns and rows of a grid.
@@ -42,11 +42,10 @@ impl Grid {
             row: 0,
             column: 0,
         };
-        let first = Cursor {
+        Ok(Grid {
             position,
-            part: Part::NewVertex,
+            part: Some(Part::NewVertex),
             place: 1,
-        };
-        Ok(Grid { next: Some(first) })
+        })
     }
 }

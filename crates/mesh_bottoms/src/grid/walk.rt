@@ -1,8 +1,8 @@
-ghost use Rattle.std.specs.Prelude.{◌≡◌, ◌+◌, ◌-◌, ◌≤◌, ◌∷◌};
+ghost use Rattle.std.specs.Prelude.{◌≡◌, ◌+◌, ◌-◌, ◌≤◌, ◌∷◌, Some};
 ghost use Rattle.mesh_bottoms.specs.Steps.{event_of, events_from};
-ghost use Rattle.mesh_bottoms.specs.Walking.{number_of, point_of, last_column, last_row, PartFollows, PositionFollows};
+ghost use Rattle.mesh_bottoms.specs.Walking.{Inner, number_of, point_of, last_column, last_row, PartFollows, PositionPassed};
 
-use crate::grid::Cursor;
+use crate::grid::Grid;
 use crate::grid::part::Part;
 use crate::grid::position::Position;
 use mesh_stream::event::{Event, Point};
@@ -47,57 +47,38 @@ impl Position {
         self.row == self.rows - 1
     }
 
-    // The position that comes next, if one does.
-    fn after(mut self) -> Option<Position>
-        ensures { PositionFollows self result }
+    // The event of a part of the position.
+    pub(super) fn event(&self, part: Part, place: u32) -> Event
+        requires { Inner self.now part }
+        ensures { result ≡ event_of self.now part place }
     {
-        if !self.in_last_column() {
-            self.column += 1;
-            Some(self)
-        } else if !self.in_last_row() {
-            self.row += 1;
-            self.column = 0;
-            Some(self)
-        } else {
-            None
-        }
-    }
-}
-
-impl Cursor {
-    // The event itself.
-    pub(super) fn event(&self) -> Event
-        ensures { result ≡ event_of self.now }
-    {
-        let place = self.place;
         let triangle = |a, b, c| Event::Triangle { place, a, b, c };
         let finalization = |vertex| Event::Finalization { place, vertex };
-        let at = &self.position;
-        let n = at.number();
-        match self.part {
+        let n = self.number();
+        match part {
             Part::NewVertex => Event::Vertex {
                 place,
                 number: n,
-                at: at.point(),
+                at: self.point(),
             },
-            Part::FirstTriangle => triangle(at.above() - 1, at.above(), n),
-            Part::SecondTriangle => triangle(at.above() - 1, n, n - 1),
-            Part::FinalizationOfP => finalization(at.above() - 1),
-            Part::FinalizationOfQ => finalization(at.above()),
+            Part::FirstTriangle => triangle(self.above() - 1, self.above(), n),
+            Part::SecondTriangle => triangle(self.above() - 1, n, n - 1),
+            Part::FinalizationOfP => finalization(self.above() - 1),
+            Part::FinalizationOfQ => finalization(self.above()),
             Part::FinalizationOfM => finalization(n - 1),
             Part::FinalizationOfN => finalization(n),
         }
     }
 
     // The part that comes next at this position, if one does.
-    fn part_after(&self) -> Option<Part>
-        ensures { PartFollows self.now.position self.now.part result }
+    fn part_after(&self, part: Part) -> Option<Part>
+        requires { Inner self.now part }
+        ensures { PartFollows self.now part result }
     {
-        let at = &self.position;
-        let last_column = at.in_last_column();
-        let last_row = at.in_last_row();
-        match self.part {
-            Part::NewVertex if at.row >= 1 && at.column >= 1 => Some(Part::FirstTriangle),
+        let last_column = self.in_last_column();
+        let last_row = self.in_last_row();
+        match part {
+            Part::NewVertex if self.row >= 1 && self.column >= 1 => Some(Part::FirstTriangle),
             Part::FirstTriangle => Some(Part::SecondTriangle),
             Part::SecondTriangle => Some(Part::FinalizationOfP),
             Part::FinalizationOfP if last_column => Some(Part::FinalizationOfQ),
@@ -109,19 +90,34 @@ impl Cursor {
         }
     }
 
-    // The event behind it, if one is left.
-    #[tactic(auto, using(crate::proofs::Bounds::number_bound))]
-    pub(super) fn after(self) -> Option<Cursor>
-        ensures { events_from (Some self) ≡ event_of self ∷ events_from result }
+    // Goes to the position that comes next, and answers its first part. The last position stays.
+    fn pass(&mut self) -> Option<Part>
+        ensures { PositionPassed self.old result self.new }
     {
-        let (position, part) = match self.part_after() {
-            Some(part) => (self.position, part),
-            None => (self.position.after()?, Part::NewVertex),
+        if !self.in_last_column() {
+            self.column += 1;
+        } else if !self.in_last_row() {
+            self.row += 1;
+            self.column = 0;
+        } else {
+            return None;
+        }
+        Some(Part::NewVertex)
+    }
+}
+
+impl Grid {
+    // Goes on behind the event of this part, which comes next.
+    #[tactic(auto, using(crate::proofs::Bounds::number_bound))]
+    pub(super) fn advance(&mut self, part: Part)
+        requires { self.old.part ≡ Some part }
+        ensures { events_from self.old ≡ event_of self.old.position part self.old.place ∷ events_from self.new }
+    {
+        let next = self.position.part_after(part);
+        self.part = match next {
+            Some(_) => next,
+            None => self.position.pass(),
         };
-        Some(Cursor {
-            position,
-            part,
-            place: self.place + 1,
-        })
+        self.place += 1;
     }
 }
