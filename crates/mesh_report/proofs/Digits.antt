@@ -1,9 +1,9 @@
 -- The digits of a number.
-use Rattle.std.proofs.Common.{◌≡◌, ℕ, zero, suc, ◌+◌, ◌/◌, ◌%◌, ◌^◌, ◌<◌, ◌≤◌, Bool, true, false, eqb, List, [], ◌∷◌, ◌++◌, length, refl, ap, ◌∙◌, arith}
+use Rattle.std.proofs.Common.{◌≡◌, ℕ, zero, suc, ◌+◌, ◌/◌, ◌%◌, ◌^◌, ◌<◌, ◌≤◌, Bool, true, false, eqb, List, [], ◌∷◌, ◌++◌, length, refl, ap, ◌∙◌, ⊎_elim, pow-suc, arith}
 use Rattle.std.specs.Prelude.{decimal}
-use Rattle.std.proofs.lemmas.Fmt.{decimal_by_steps, length-decimal-le}
+use Rattle.std.proofs.lemmas.Fmt.{decimal_by_steps}
 use Rattle.std.proofs.lemmas.List.{length_push}
-use Rattle.std.proofs.lemmas.Bool.{eq-eqb, ne_eqb, eqb-false}
+use Rattle.std.proofs.lemmas.Bool.{eq-eqb, ne_eqb, eqb-false, cases_eq}
 use Rattle.mesh_report.specs.Spelling.{spelled, spelled_in}
 
 abbrev front : Bool → List ℕ → List ℕ
@@ -41,16 +41,23 @@ length_one n e = ap length (spelled_one n e)
 pub length_more : (n : ℕ) → (n / 10 ≡ 0 → ⊥) → length (spelled n) ≡ length (spelled (n / 10)) + 1
 length_more n e = ap length (spelled_more n e) ∙ length_push (spelled (n / 10)) (48 + n % 10)
 
--- The library's decimal digits, and so as many.
+-- The library's decimal digits.
 pub spelled_is_decimal : (n : ℕ) → n < 2 ^ 64 → spelled n ≡ decimal n
 spelled_is_decimal = decimal_by_steps (λ m ds. spelled m ≡ ds) (λ m l. spelled_one m (omega arith) ∙ ap (λ d. (48 + d) ∷ []) (omega arith)) (λ m ds l e. spelled_more m (λ z. omega arith) ∙ ap (λ (d : List ℕ). d ++ ((48 + m % 10) ∷ [])) e)
 
-most_digits : (k n : ℕ) → 0 < k → n < 10 ^ k → n < 2 ^ 64 → length (spelled n) ≤ k
-most_digits k n some fits small = let e = ap length (spelled_is_decimal n small) in let l = length-decimal-le k n some fits small in omega arith
+-- A number below 10 to the power k + 1 has k + 1 digits at the most.
+pub most_digits : (k n : ℕ) → n < 10 ^ suc k → length (spelled n) ≤ suc k
+most_digits zero n h = let e = length_one n (omega arith) in omega arith
+most_digits (suc k) n h =
+    let fewer : n / 10 < 10 ^ suc k = omega (arith, pow-suc 10 (suc k)) in
+    ⊎_elim
+    (λ z. let e = length_one n z in omega arith)
+    (λ z. let e = length_more n z in let m = most_digits k (n / 10) fewer in omega arith)
+    (cases_eq (n / 10) 0)
 
 -- The numbers of 32 bits, and how far from 0 those of 64 bits are.
 pub digits_of_count : (n : ℕ) → n < 2 ^ 32 → length (spelled n) ≤ 10
-digits_of_count n h = most_digits 10 n (omega arith) (omega arith) (omega arith)
+digits_of_count n h = most_digits 9 n (omega arith)
 
 pub digits_of_distance : (n : ℕ) → n ≤ 2 ^ 63 → length (spelled n) ≤ 19
-digits_of_distance n h = most_digits 19 n (omega arith) (omega arith) (omega arith)
+digits_of_distance n h = most_digits 18 n (omega arith)
